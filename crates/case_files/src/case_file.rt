@@ -12,7 +12,7 @@ pub struct Case {
     /// The text of the grammar.
     pub grammar: String,
     /// The expected text.
-    pub owed: String,
+    pub expected: String,
 }
 
 /// A fault of a case file: a line where it is not allowed.
@@ -42,7 +42,7 @@ pub struct CaseFile {
     grammar: String,
     asked: usize,
     question: String,
-    owed: String,
+    expected: String,
     pub cases: Vec<Case>,
     pub faults: Vec<Fault>,
 }
@@ -75,7 +75,7 @@ impl CaseFile {
             grammar: String::new(alloc),
             asked: 0,
             question: String::new(alloc),
-            owed: String::new(alloc),
+            expected: String::new(alloc),
             cases: Vec::new(alloc),
             faults: Vec::new(alloc),
         }
@@ -136,7 +136,7 @@ impl CaseFile {
                 self.finish()?;
                 self.ask(number, question)
             }
-            None => push_line(&mut self.owed, line),
+            None => push_line(&mut self.expected, line),
         }
     }
 
@@ -145,7 +145,7 @@ impl CaseFile {
         self.part = Part::Owed;
         self.asked = number;
         self.question = String::from_str(self.alloc, question)?;
-        self.owed = String::new(self.alloc);
+        self.expected = String::new(self.alloc);
         Ok(())
     }
 
@@ -155,7 +155,7 @@ impl CaseFile {
             line: self.asked,
             question: self.question.clone()?,
             grammar: self.grammar.clone()?,
-            owed: self.owed.clone()?,
+            expected: self.expected.clone()?,
         };
         self.cases.push(case)?;
         Ok(())

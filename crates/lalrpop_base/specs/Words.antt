@@ -1,12 +1,12 @@
 -- The list of the definitions that contracts use, with the place of each.
-pub use Rattle.lalrpop_states.specs.check.CheckCarrying.{AllHoldCarried, AreCarried, AreCarriedTo, Carried, Gives, HasBegun, HasStarted, HoldsCarried, IsBegunAt}
+pub use Rattle.lalrpop_states.specs.check.CheckCarrying.{AllHoldTableTokens, AreCarried, AreCarriedTo, Carried, CarriesFromPlace, HasPropagatedIn, HasStarted, HoldsTableTokens, IsPlaceAtStart}
 pub use Rattle.lalrpop_states.specs.check.CheckCarrying.{IsCarriedTo, IsInto, IsOver, Sends, at_place, target_from, target_in}
-pub use Rattle.lalrpop_states.specs.check.CheckCarrying.{IsSettled}
-pub use Rattle.lalrpop_states.specs.closures.CheckClosing.{AreClosure, IsBegun, IsExpansionOf, IsMovedIn, IsMovedOf}
-pub use Rattle.lalrpop_states.specs.closures.Closing.{AreOwn, Begins, HasGiven}
-pub use Rattle.lalrpop_states.specs.closures.Closing.{IsTokenClosed, IsTokenSettled}
-pub use Rattle.lalrpop_states.specs.closures.Closure.{AreItems, AreItemsBy, Found, HasItemToken, HasItemTokenBy, InKernel, InTokenClosureBy}
-pub use Rattle.lalrpop_states.specs.closures.Closure.{IsClosureBy, IsClosureOf, IsItemBy, IsItemOf, begun_of, from_parent}
+pub use Rattle.lalrpop_states.specs.check.CheckCarrying.{IsClosedAt}
+pub use Rattle.lalrpop_states.specs.closures.CheckClosing.{AreClosure, IsOneAtStart, IsExpansionOf, IsMovedIn, IsMovedOf}
+pub use Rattle.lalrpop_states.specs.closures.Closing.{AreOwn, Begins, HasPropagated}
+pub use Rattle.lalrpop_states.specs.closures.Closing.{IsTokenClosed, IsTokenClosedAt}
+pub use Rattle.lalrpop_states.specs.closures.Closure.{AreItems, AreItemsBy, ClosureTable, HasItemToken, HasItemTokenBy, InKernel, InTokenClosureBy}
+pub use Rattle.lalrpop_states.specs.closures.Closure.{IsClosureBy, IsClosureOf, IsItemBy, IsItemOf, lr0_at_start, from_parent}
 pub use Rattle.lalrpop_states.specs.closures.Closure.{from_rest, item_of, meant, own_token}
 pub use Rattle.lalrpop_grammar.specs.closures.Closures.{AreCanonical, AreChecked, AreClosed, InClosure, InTokenClosure, IsAtStart, IsAtStartWith, IsCarried, IsMoved}
 pub use Rattle.lalrpop_grammar.specs.closures.Closures.{IsMovedWith, IsReached, KernelsDiffer, TokenKernelsDiffer, at_zero, begins_rest, eof_at_start, expanded}
@@ -16,7 +16,7 @@ pub use Rattle.lalrpop_states.specs.collapse.Collapsible.{AreAlike, AreCollapsib
 pub use Rattle.lalrpop_states.specs.collapse.Merging.{AreFirstNumbers, AreJoinedReductions, AreTokensOf, HasReduction, HasReductionOn, HasTokensOf, IsJoined}
 pub use Rattle.lalrpop_states.specs.collapse.Merging.{IsPlacedAt, IsReduced, Places, bare, joined, joined_at, joined_item, joined_items, pushed}
 pub use Rattle.lalrpop_states.specs.conflicts.AllConflicts.{AreAllConflicts, FailWith}
-pub use Rattle.lalrpop_states.specs.conflicts.AllConflicts.{HaveNoConflict, ListsAll, more}
+pub use Rattle.lalrpop_states.specs.conflicts.AllConflicts.{AreAllConflictFree, ListsAll, more}
 pub use Rattle.lalrpop_states.specs.conflicts.ConflictCounts.{count_on_bit, count_on_place, later_count, reduce_conflict_count, shift_conflict_count}
 pub use Rattle.lalrpop_grammar.specs.conflicts.ConflictLists.{IsReduceConflict, IsShiftConflict, LaterPart, ReduceParts, ShiftPart, ShiftParts, apart, in_conflict}
 pub use Rattle.lalrpop_grammar.specs.conflicts.ConflictLists.{no_later, no_more, no_reductions, no_shifts, reduce_first, shares_none, shift_first, with_later}
@@ -28,26 +28,26 @@ pub use Rattle.lalrpop_states.specs.conflicts.Failures.{TellsNotLALR1}
 pub use Rattle.lalrpop_states.specs.conflicts.NilConflicts.{nil_conflict, nil_conflicts, nil_shift_conflicts}
 pub use Rattle.lalrpop_states.specs.conflicts.StateConflicts.{conflicts_on_bit, conflicts_on_place, later_conflicts, meet, reduce_conflict, reduce_conflicts, share}
 pub use Rattle.lalrpop_states.specs.conflicts.StateConflicts.{shift_conflict, shift_conflicts, state_conflicts}
-pub use Rattle.lr1_theory.specs.construction.States.{AreBuiltBy, Extends, HasTransition, IsBuilt, IsBuiltBy, IsBuiltOfBy, IsLedTo, Leads, LeadsToAdded, begun}
+pub use Rattle.lr1_theory.specs.construction.States.{AreBuiltBy, Extends, HasTransition, IsBuilt, IsBuiltBy, IsBuiltOfBy, IsLedTo, ItemsLeadTo, LeadsToAdded, item_at_start}
 pub use Rattle.lr1_theory.specs.construction.States.{state_entries}
 pub use Rattle.lalrpop_states.specs.construction.Transitions.{AddsKernels}
 pub use Rattle.lalrpop_states.specs.construction.Transitions.{AreEdges, AreMoves, Groups, HasNoGroup, IsBehind, IsBehindOne, IsMoveAdded}
-pub use Rattle.lalrpop_states.specs.construction.Transitions.{AreEdgesListed, AreTransitions, Entries, HasEntry, IsEntryAdded, LeadsTo, edge_entries, list_entries}
+pub use Rattle.lalrpop_states.specs.construction.Transitions.{AreEdgesListed, AreTransitions, Entries, HasEntry, IsEntryAdded, GroupLeadsTo, edge_entries, list_entries}
 pub use Rattle.lalrpop_states.specs.construction.Transitions.{Shifts, ShiftsAscend, reductions_of, seen_reduction, shifted}
 pub use Rattle.lalrpop_grammar.specs.first.First.{AreFirstSetsOf, IsFirstSet, IsFirstSetBefore}
-pub use Rattle.lalrpop_grammar.specs.first.FirstNumbers.{AreReady, GivesByNumber, HasBitsBelow, IsNumberedProduction, IsNumberedSymbol, IsReady, numbers_from, place, set_at}
+pub use Rattle.lalrpop_grammar.specs.first.FirstNumbers.{AreReady, GivesByNumber, HasBitsBelow, IsNumberedProduction, IsNumberedSymbol, IsReady, numbered_names, place, set_at}
 pub use Rattle.lalrpop_grammar.specs.first.FirstSets.{AreFirstSets, FirstBy, NullableBy}
-pub use Rattle.lalrpop_grammar.specs.first.FirstTables.{IsClosed, IsRight, IsSetJoined, Table, is_in, set_of}
-pub use Rattle.lalrpop_grammar.specs.first.FirstTurns.{IsAdded, IsQueued, IsTurn}
+pub use Rattle.lalrpop_grammar.specs.first.FirstTables.{IsFixpoint, IsRight, IsSetJoined, Table, is_in, first_set_of}
+pub use Rattle.lalrpop_grammar.specs.first.FirstTurns.{IsProductionAdded, Enqueues, IsTurn}
 pub use Rattle.lalrpop_grammar.specs.first.FirstUses.{AddsUses, AreUses, uses_at}
 pub use Rattle.lalrpop_states.specs.grammars.Ascending.{Ascend, Precedes, production_order}
 pub use Rattle.lalrpop_grammar.specs.grammars.Augmented.{IsAugmented}
 pub use Rattle.lalrpop_grammar.specs.grammars.ExactNames.{name_exact, same_production}
-pub use Rattle.lalrpop_grammar.specs.grammars.Grammar.{Derives, IsBeginning, IsFirst, IsNullable, IsOnNoRightSide, IsSentence, as_it_is, replace, symbols_of}
+pub use Rattle.lalrpop_grammar.specs.grammars.Grammar.{Derives, IsBeginning, IsFirst, IsNullable, IsOnNoRightSide, IsSentence, as_it_is, replace, terminal_symbols}
 pub use Rattle.lalrpop_grammar.specs.grammars.Marks.{inline_mark}
 pub use Rattle.lalrpop_grammar.specs.grammars.Names.{nonterminal_text, production_text, symbol_text, symbols_text, terminal_text, token_text}
 pub use Rattle.lalrpop_grammar.specs.grammars.NewStart.{HasNewStart, IsEntryOf, IsRefusedStart, IsUnused, start_action, start_production, underscored}
-pub use Rattle.lalrpop_grammar.specs.grammars.TerminalPlaces.{ArePlaced, HasPlaces, IsIndexed, place_in}
+pub use Rattle.lalrpop_grammar.specs.grammars.TerminalPlaces.{AreTerminalPlaces, HasPlaces, IsIndexed, place_in}
 pub use Rattle.lalrpop_grammar.specs.grammars.Tokens.{FitsTokens, HasToken, IsBitOf, IsKnown, IsTerminal, seen, token_of}
 pub use Rattle.lalrpop_grammar.specs.grammars.WellFormed.{AreWellFormedEntries, HasKnownTerminals, IsWellFormed, IsWellFormedEntry, IsWellFormedProduction, Rules}
 pub use Rattle.lalrpop_grammar.specs.grammars.WellFormed.{listed_productions, name_cmp, productions, productions_of, rules_of}
@@ -60,10 +60,10 @@ pub use Rattle.lalrpop_collections.specs.lists.Counts.{IsBelow, count, one_if}
 pub use Rattle.lalrpop_collections.specs.lists.Each.{EachBelow, EachEntry, EachItem, Ordered}
 pub use Rattle.lalrpop_collections.specs.lists.Entries.{Adds, AllBelow, Grows, IsFound, IsFoundWith, IsJoinedAt, IsPushedAt, burden, readings}
 pub use Rattle.lalrpop_collections.specs.lists.Exact.{Exactly, both, list_exact}
-pub use Rattle.lalrpop_collections.specs.lists.Multimaps.{AreSame, IsCollected, PushesAll, PushesAt, SameAt, at_itself, collection_at, values_at}
+pub use Rattle.lalrpop_collections.specs.lists.Multimaps.{AreSame, IsCollectionOf, PushesAll, PushesAt, SameAt, at_itself, collection_at, values_at}
 pub use Rattle.lalrpop_collections.specs.lists.Partitions.{ArePlaces, fails, new_place, parted, parted_place, rank}
 pub use Rattle.lalrpop_collections.specs.lists.Places.{AllDiffer, DifferBelow, IsFirstRepeat}
-pub use Rattle.lalrpop_collections.specs.lists.Queues.{IsMarked, Waiting, waits}
+pub use Rattle.lalrpop_collections.specs.lists.Queues.{HasWaitingMarks, Waiting, waits}
 pub use Rattle.lalrpop_collections.specs.lists.Spreading.{HoldsBit, IsSpread, edge_ends, held, sent_on}
 pub use Rattle.lalrpop_collections.specs.lists.Ties.{Ties}
 pub use Rattle.lalrpop_collections.specs.lists.Walks.{AllWait, Visits}
@@ -72,7 +72,7 @@ pub use Rattle.lalrpop_numbers.specs.numbers.Numbering.{all_dots, lists_of, with
 pub use Rattle.lalrpop_numbers.specs.numbers.Numbers.{AreAllNumbered, AreBehindDots, AreExpansions, AreGroupsOf, AreItemsOf, AreNumbered, AreNumbers, IsNumberBehind}
 pub use Rattle.lalrpop_numbers.specs.numbers.Numbers.{MovesToNext, NumberedGroups, NumbersAscend, SymbolsAscend, dotted_at, groups_by, item_by, items_by, kernels_by}
 pub use Rattle.lalrpop_numbers.specs.numbers.Numbers.{numbered_exact, symbol_at, symbol_order}
-pub use Rattle.lalrpop_numbers.specs.numbers.Rests.{AreRests, HasRest, IsRest, IsRestOf}
+pub use Rattle.lalrpop_numbers.specs.numbers.Suffixes.{AreSuffixes, HasSuffix, IsSuffix, IsSuffixOf}
 pub use Rattle.lalrpop_grammar.specs.parsing.Laws.{AreCanonicalWith, DifferInReductions}
 pub use Rattle.lalrpop_grammar.specs.parsing.Runs.{Configuration, Ends, Goes, HasOutcome, IsFirstWrong, IsParse, IsPromptRefusal, IsRightNext, Limit, Move, Outcome}
 pub use Rattle.lalrpop_grammar.specs.parsing.Runs.{Parsed, Reaches, Refused, Stands, at_end, at_terminal, before_all, begin, behind_shift, cut_off, further, goes_on, here}
@@ -86,12 +86,12 @@ pub use Rattle.lalrpop_grammar.specs.renumbering.Renumbering.{HasGoto, IsRenumbe
 pub use Rattle.lalrpop_states.specs.states.ActionEntries.{ReduceBy, ShiftTo, TableEntry, action_on, shift_of, shift_or, table_entry}
 pub use Rattle.lalrpop_states.specs.states.CheckStates.{AreRightStates, IsRightItem, IsRightState, IsRightTarget, IsTarget, LeadsBy, LeadsFrom, LeadsOn, Lists}
 pub use Rattle.lalrpop_states.specs.states.CheckStates.{finished}
-pub use Rattle.lalrpop_states.specs.states.Coherent.{AreCoherent, AreFinished, HasItem, IsAt, IsCoherentEdge, IsCoherentState, IsCoherentStep, IsShifted, StartsAtZero}
-pub use Rattle.lalrpop_states.specs.states.Coherent.{symbol_of}
+pub use Rattle.lalrpop_states.specs.states.Coherent.{AreCoherent, AreFinished, HasItem, IsAt, IsCoherentEdge, IsCoherentState, IsCoherentStep, IsShiftedFrom, StartsAtZero}
+pub use Rattle.lalrpop_states.specs.states.Coherent.{symbol_of_ref}
 pub use Rattle.lalrpop_states.specs.states.Contents.{contents, contents_at, contents_in, contents_of, dotted_of, has_at, holds_token, no_contents, number_of}
 pub use Rattle.lalrpop_states.specs.states.Contents.{reduced_productions, reduction_of}
 pub use Rattle.lalrpop_grammar.specs.states.Copies.{IsCopying}
-pub use Rattle.lalrpop_states.specs.states.Edges.{Edge, goto_edge, seen_edge, shift_edge, state_edges}
+pub use Rattle.lalrpop_states.specs.states.Edges.{StateEdge, goto_edge, seen_edge, shift_edge, state_edges}
 pub use Rattle.lalrpop_states.specs.states.Items.{Dotted, dotted_exact, with_dot}
 pub use Rattle.lalrpop_collections.specs.states.Kernels.{AddsOnce, IsNumbering, Kernels, by_number, key_numbered, keys_below}
 pub use Rattle.lalrpop_grammar.specs.states.States.{Allows, AreFaithful, CanStandNext, Contents, HasNoRepeat, HasRightItems, HaveRightItems, IsBehindDot, IsRightFor}

@@ -19,7 +19,8 @@ pub use lalrpop_grammar::{first, repr, spread};
 pub use lalrpop_numbers::numbers;
 pub use lalrpop_states::lookahead::{Token, TokenRef, TokenSet};
 pub use lalrpop_states::lr1_core::state::{
-    Action, BuildError, Conflict, Lr1Conflict, Lr1State, StateIndex, TableConstructionError,
+    Action, BuildError, Conflict, Lr1Conflict, Lr1State, Lr1TableConstructionError, StateIndex,
+    TableConstructionError,
 };
 pub use lalrpop_states::lr1_core::{Item, Lr0Item, Lr1Item, are_coherent};
 pub use lalrpop_states::{collections, kernel_set, lookahead, lr1_core};

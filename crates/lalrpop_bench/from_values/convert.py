@@ -69,7 +69,7 @@ def block(name, text, asked):
     if not text.endswith(b"\n"):
         remark += ", whose last line has no LF"
         text += b"\n"
-    lines = [line for question in asked for line in [question.line(), *question.owed]]
+    lines = [line for question in asked for line in [question.line(), *question.expected]]
     head = f"\n{remark}\ngrammar\n".encode()
     return head + text + "".join(line + "\n" for line in [*lines, "end"]).encode()
 

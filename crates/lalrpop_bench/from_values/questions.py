@@ -1,4 +1,4 @@
-"""The questions that values answer, kind by kind, each with the lines that are owed."""
+"""The questions that values answer, kind by kind, each with the lines that are expected."""
 
 from dataclasses import dataclass, field
 
@@ -7,9 +7,9 @@ from shown import counts_line, is_counted, listed, production_text, result_lines
 
 @dataclass
 class Question:
-    """A call with its words, and the lines owed."""
+    """A call with its words, and the expected lines."""
     words: list
-    owed: list
+    expected: list
 
     def line(self):
         return " ".join(["ask", *self.words])
@@ -135,7 +135,7 @@ def ask_early_stop(grammar, value):
 def ask_collapse(grammar, value):
     """The merged canonical states."""
     question = asked_result(grammar, ["collapse_to_lalr_states", grammar.start], value)
-    question.owed.insert(0, "collapsible true")
+    question.expected.insert(0, "collapsible true")
     return [question]
 
 
@@ -170,6 +170,6 @@ def without_repeats(questions):
     once = {}
     for question in questions:
         first = once.setdefault(question.line(), question)
-        if first.owed != question.owed:
+        if first.expected != question.expected:
             raise ValueError(f"two answers to {question.line()}")
     return list(once.values())

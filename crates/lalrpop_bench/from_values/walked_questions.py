@@ -1,4 +1,4 @@
-"""The questions of lane tables, traces, runs and new start symbols, with the lines that are owed."""
+"""The questions of lane tables, traces, runs and new start symbols, with the lines that are expected."""
 
 import re
 

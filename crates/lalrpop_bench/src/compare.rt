@@ -122,7 +122,7 @@ fn compare_texts(
     case: &Case,
     text: &str,
 ) -> Result<(), OutOfMemory> {
-    if text == case.owed.as_str() {
+    if text == case.expected.as_str() {
         tally.agree = tally.agree.saturating_add(1);
         return Ok(());
     }
@@ -132,8 +132,8 @@ fn compare_texts(
         "{name}, line {}: ask {}\n",
         case.line, case.question
     )?;
-    let (owed, answered) = first_difference(case.owed.as_str(), text);
-    write!(report, "  owed:     {owed}\n  answered: {answered}\n")?;
+    let (expected, returned) = first_difference(case.expected.as_str(), text);
+    write!(report, "  expected: {expected}\n  returned: {returned}\n")?;
     Ok(())
 }
 

@@ -16,13 +16,13 @@ const CASES: usize = 3;
 struct Asked<'case> {
     question: Question<'case>,
     grammar: &'case str,
-    owed: &'case str,
+    expected: &'case str,
 }
 
 impl Attempt for Asked<'_> {
     fn attempt(&mut self, alloc: Global) -> Option<bool> {
         match answer(alloc, &self.question, self.grammar) {
-            Ok(text) => Some(text.as_str() == self.owed),
+            Ok(text) => Some(text.as_str() == self.expected),
             Err(QuestionError::Memory) => None,
             Err(QuestionError::Call | QuestionError::Argument(_)) => Some(false),
         }
@@ -108,7 +108,7 @@ fn refuse_case(alloc: Global, case: &Case) -> Result<Outcome, OutOfMemory> {
     let mut asked = Asked {
         question,
         grammar: case.grammar.as_str(),
-        owed: case.owed.as_str(),
+        expected: case.expected.as_str(),
     };
     Ok(refused_in_turn(alloc, &mut asked)?)
 }

@@ -1,9 +1,9 @@
 -- The definitions that the contracts of this crate use, by the modules that have them.
 pub use Rattle.lalrpop_construction.specs.canonical.CanonicalAnswers.{AreCanonicalTables, AreCanonicalTablesOrCount, FailsByConflicts, HasCanonicalConflicts, IsConflictCount, LacksTables, MatchTablesOrCount, up_to_greatest}
-pub use Rattle.lalrpop_construction.specs.closures.EpsilonMoves.{AreBegunWith, AreEpsilonMoves, IsBegunWith}
-pub use Rattle.lalrpop_construction.specs.closures.Sharing.{AllFit, HasShare, IsFront, IsNamed, IsShared, IsSharing, MayFollow, MayFollowIn, Shared, Shares, StandsBehind}
-pub use Rattle.lalrpop_construction.specs.closures.Sharing.{StandsBehindOne, fronts_in, list_at, numbered_of, parts_in, unfolded, with_tokens}
-pub use Rattle.lalrpop_construction.specs.conflicts.CanonicalConflicts.{AreCanonicalConflictsOf, FailByCanonicalConflicts, ShiftsLead, StatesAscend, listed_of}
+pub use Rattle.lalrpop_construction.specs.closures.EpsilonMoves.{AreItemsAtStart, AreEpsilonMoves, IsItemAtStart}
+pub use Rattle.lalrpop_construction.specs.closures.Propagation.{AllFit, HasTokensThatFollow, IsExpansionWith, IsNamed, IsPropagated, IsPropagation, MayFollow, MayFollowIn, NonterminalTokens, Propagates, StandsBehind}
+pub use Rattle.lalrpop_construction.specs.closures.Propagation.{StandsBehindOne, expansions_in, vec_items_at, numbered_of, parts_in, unfolded, with_tokens}
+pub use Rattle.lalrpop_construction.specs.conflicts.CanonicalConflicts.{AreCanonicalConflictsOf, AreConflictsOfFailure, ShiftsLead, StatesAscend, listed_of}
 pub use Rattle.lalrpop_construction.specs.conflicts.ListedConflicts.{conflict_of, conflicts_of}
 pub use Rattle.lalrpop_construction.specs.construction.Building.{AreMadeSoFar, Building}
 pub use Rattle.lalrpop_construction.specs.construction.EarlyStop.{AreEnough, AreMadeFor, AreMadeUntilBy, ArePartlyBuilt, ArePartlyBuiltBy, AreSomeCanonicalStates}

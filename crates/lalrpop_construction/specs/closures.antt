@@ -1,3 +1,3 @@
 -- Closures of kernels.
 pub mod EpsilonMoves
-pub mod Sharing
+pub mod Propagation

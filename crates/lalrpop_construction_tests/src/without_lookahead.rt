@@ -26,7 +26,7 @@ fn counts(alloc: Global, grammar: &Grammar, stop_after: usize) -> Result<(usize,
 #[test]
 fn constructions_stop_after_conflicts(rt: HostRuntime) -> Result<(), Fail> {
     let alloc = rt.alloc();
-    for (text, stop_after, owed) in [
+    for (text, stop_after, expected) in [
         (EMPTY_FIRST, 0, (7, 2)),
         (EMPTY_FIRST, 1, (1, 1)),
         (EMPTY_FIRST, 2, (2, 2)),
@@ -35,7 +35,7 @@ fn constructions_stop_after_conflicts(rt: HostRuntime) -> Result<(), Fail> {
         ("S = \"x\"", 1, (2, 0)),
     ] {
         let grammar = grammar(alloc, text)?;
-        assert_eq!(rt; counts(alloc, &grammar, stop_after)?, owed, "{text}");
+        assert_eq!(rt; counts(alloc, &grammar, stop_after)?, expected, "{text}");
     }
     Ok(())
 }

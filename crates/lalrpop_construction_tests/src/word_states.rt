@@ -31,7 +31,7 @@ fn counts(alloc: Global, grammar: &Grammar, start: &str) -> Result<(usize, usize
 #[test]
 fn states_with_words(rt: HostRuntime) -> Result<(), Fail> {
     let alloc = rt.alloc();
-    for (text, start, owed) in [
+    for (text, start, expected) in [
         (SUMS, "S", (16, 0)),
         (
             "Ty = \"int\"\nTy = \"bool\"\nTy = Ty \"->\" Ty",
@@ -42,7 +42,7 @@ fn states_with_words(rt: HostRuntime) -> Result<(), Fail> {
         (EMPTY_FIRST, "S", (11, 3)),
     ] {
         let grammar = grammar(alloc, text)?;
-        assert_eq!(rt; counts(alloc, &grammar, start)?, owed, "{text}");
+        assert_eq!(rt; counts(alloc, &grammar, start)?, expected, "{text}");
     }
     Ok(())
 }

@@ -1,7 +1,7 @@
 //! The explanation of conflicts: the items of their actions, with examples of input.
+mod context;
 mod examples;
 pub mod explainer;
-mod ground;
 mod items;
 mod own;
 
@@ -64,12 +64,12 @@ fn explained_conflicts<'error, 'grammar>(
     conflicts: &'error [Lr1Conflict<'grammar>],
     most: usize,
 ) -> Result<Vec<ExplainedConflict<'error, 'grammar>>, OutOfMemory>
-    requires states { AreOwnStates explainer.now.ground.first_sets.now
-        explainer.now.ground.states.now }
-    requires conflicts { AreOwnConflicts explainer.now.ground.first_sets.now.productions
+    requires states { AreOwnStates explainer.now.context.first_sets.now
+        explainer.now.context.states.now }
+    requires conflicts { AreOwnConflicts explainer.now.context.first_sets.now.productions
         conflicts.now }
-    ensures { IfOk result (λ list. AreExplained explainer.now.ground.first_sets.now
-        explainer.now.ground.states.now most conflicts.now list.items) }
+    ensures { IfOk result (λ list. AreExplained explainer.now.context.first_sets.now
+        explainer.now.context.states.now most conflicts.now list.items) }
 {
     let mut list = Vec::new(alloc);
     for conflict in conflicts {

@@ -8,18 +8,18 @@ pub use Rattle.lalrpop_grammar.specs.conflicts.ConflictLists.{no_later, no_more,
 pub use Rattle.lalrpop_grammar.specs.conflicts.Conflicts.{ActionPrecedes, AreCanonicalConflicts, AreConflicts, AreConflictsOf, ConflictContents, HasNoCanonicalConflict}
 pub use Rattle.lalrpop_grammar.specs.conflicts.Conflicts.{IsConflict, IsInConflict, IsLess, IsOrder, ReducesInOrder, StandsBefore}
 pub use Rattle.lalrpop_grammar.specs.first.First.{AreFirstSetsOf, IsFirstSet, IsFirstSetBefore}
-pub use Rattle.lalrpop_grammar.specs.first.FirstNumbers.{AreReady, GivesByNumber, HasBitsBelow, IsNumberedProduction, IsNumberedSymbol, IsReady, numbers_from, place, set_at}
+pub use Rattle.lalrpop_grammar.specs.first.FirstNumbers.{AreReady, GivesByNumber, HasBitsBelow, IsNumberedProduction, IsNumberedSymbol, IsReady, numbered_names, place, set_at}
 pub use Rattle.lalrpop_grammar.specs.first.FirstSets.{AreFirstSets, FirstBy, NullableBy}
-pub use Rattle.lalrpop_grammar.specs.first.FirstTables.{IsClosed, IsRight, IsSetJoined, Table, is_in, set_of}
-pub use Rattle.lalrpop_grammar.specs.first.FirstTurns.{IsAdded, IsQueued, IsTurn}
+pub use Rattle.lalrpop_grammar.specs.first.FirstTables.{IsFixpoint, IsRight, IsSetJoined, Table, is_in, first_set_of}
+pub use Rattle.lalrpop_grammar.specs.first.FirstTurns.{IsProductionAdded, Enqueues, IsTurn}
 pub use Rattle.lalrpop_grammar.specs.first.FirstUses.{AddsUses, AreUses, uses_at}
 pub use Rattle.lalrpop_grammar.specs.grammars.Augmented.{IsAugmented}
 pub use Rattle.lalrpop_grammar.specs.grammars.ExactNames.{name_exact, same_production}
-pub use Rattle.lalrpop_grammar.specs.grammars.Grammar.{Derives, IsBeginning, IsFirst, IsNullable, IsOnNoRightSide, IsSentence, as_it_is, replace, symbols_of}
+pub use Rattle.lalrpop_grammar.specs.grammars.Grammar.{Derives, IsBeginning, IsFirst, IsNullable, IsOnNoRightSide, IsSentence, as_it_is, replace, terminal_symbols}
 pub use Rattle.lalrpop_grammar.specs.grammars.Marks.{inline_mark}
 pub use Rattle.lalrpop_grammar.specs.grammars.Names.{nonterminal_text, production_text, symbol_text, symbols_text, terminal_text, token_text}
 pub use Rattle.lalrpop_grammar.specs.grammars.NewStart.{HasNewStart, IsEntryOf, IsRefusedStart, IsUnused, start_action, start_production, underscored}
-pub use Rattle.lalrpop_grammar.specs.grammars.TerminalPlaces.{ArePlaced, HasPlaces, IsIndexed, place_in}
+pub use Rattle.lalrpop_grammar.specs.grammars.TerminalPlaces.{AreTerminalPlaces, HasPlaces, IsIndexed, place_in}
 pub use Rattle.lalrpop_grammar.specs.grammars.Tokens.{FitsTokens, HasToken, IsBitOf, IsKnown, IsTerminal, seen, token_of}
 pub use Rattle.lalrpop_grammar.specs.grammars.WellFormed.{AreWellFormedEntries, HasKnownTerminals, IsWellFormed, IsWellFormedEntry, IsWellFormedProduction, Rules}
 pub use Rattle.lalrpop_grammar.specs.grammars.WellFormed.{listed_productions, name_cmp, productions, productions_of, rules_of}

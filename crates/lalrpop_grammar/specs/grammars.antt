@@ -1,5 +1,6 @@
 -- Grammars, their names and tokens, derivations and parse trees.
 pub mod Augmented
+pub mod Entries
 pub mod ExactNames
 pub mod Grammar
 pub mod Marks

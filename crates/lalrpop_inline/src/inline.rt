@@ -12,29 +12,15 @@ ghost use Rattle.lalrpop_grammar.specs.declared.repr.TerminalString.{TerminalStr
 ghost use Rattle.lalrpop_grammar.specs.declared.repr.Production.{Production};
 ghost use Rattle.lalrpop_grammar.specs.declared.repr.grammar.ActionFnDefn.{ActionFnDefn};
 ghost use Rattle.lalrpop_inline.specs.inlining.InlineMeetings.{IsComeBackTo, NamesBy};
-ghost use Rattle.lalrpop_inline.specs.inlining.InlineOrder.{IsMarked, Mentions, IsInlineOrder, IsOnRing, IsCycleOf};
+ghost use Rattle.lalrpop_inline.specs.inlining.InlineOrder.{IsMarked, Mentions, IsOnRing};
 ghost use Rattle.lalrpop_inline.specs.inlining.Inlined.{IsInlined, IsLaidOut, IsRefusalOf};
 
 use entries::inline_nonterminal;
-use graph::ordered;
-use lalrpop_base::repr::NonterminalString;
+pub use graph::inline_order;
 use lalrpop_base::repr::grammar::Grammar;
 use lalrpop_base::repr::norm_error::NormResult;
 use std::alloc::Global;
 use users::users_of;
-
-/// The marked nonterminals in an order to inline them: each after the marked ones that it mentions.
-/// A depth first walk visits them in the order of their names, and those that one mentions from the
-/// last mention to the first. If the walk comes back to a nonterminal that it is in, the error is
-/// `Cycle` and names that one. The error is `Memory` if an allocation fails.
-pub fn inline_order(alloc: Global, grammar: &Grammar) -> NormResult<Vec<NonterminalString>>
-    ensures order { IfOk result (λ order. IsInlineOrder grammar.now order.items) }
-    ensures acyclic { OnOk result ((a : NonterminalString) → IsOnRing grammar.now a → ⊥) }
-    ensures refused { IfErr result (IsCycleOf grammar.now) }
-    ensures met { IfErr result (NamesBy (IsComeBackTo grammar.now)) }
-{
-    ordered(alloc, grammar)
-}
 
 /// The grammar with its marked nonterminals inlined. They keep their entries. New actions are
 /// numbered as each nonterminal is inlined, entry by entry in the order of the names. The error is
@@ -58,7 +44,8 @@ pub fn inline(alloc: Global, grammar: Grammar) -> NormResult<Grammar>
     ensures refused { IfErr result (IsRefusalOf grammar) }
     ensures met { IfErr result (NamesBy (IsComeBackTo grammar)) }
 {
-    let order = ordered(alloc, &grammar)?;
+    let _names = grammar.nonterminals.len();
+    let order = inline_order(alloc, &grammar)?;
     let users = users_of(alloc, &grammar)?;
     let mut inlined = grammar;
     for name in &order {

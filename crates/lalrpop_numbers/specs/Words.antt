@@ -4,4 +4,4 @@ pub use Rattle.lalrpop_numbers.specs.numbers.Numbering.{all_dots, lists_of, with
 pub use Rattle.lalrpop_numbers.specs.numbers.Numbers.{AreAllNumbered, AreBehindDots, AreExpansions, AreGroupsOf, AreItemsOf, AreNumbered, AreNumbers, IsNumberBehind}
 pub use Rattle.lalrpop_numbers.specs.numbers.Numbers.{MovesToNext, NumberedGroups, NumbersAscend, SymbolsAscend, dotted_at, groups_by, item_by, items_by, kernels_by}
 pub use Rattle.lalrpop_numbers.specs.numbers.Numbers.{numbered_exact, symbol_at, symbol_order}
-pub use Rattle.lalrpop_numbers.specs.numbers.Rests.{AreRests, HasRest, IsRest, IsRestOf}
+pub use Rattle.lalrpop_numbers.specs.numbers.Suffixes.{AreSuffixes, HasSuffix, IsSuffix, IsSuffixOf}

@@ -3,12 +3,11 @@ mod dotted;
 mod expansions;
 mod halving;
 pub mod numbered;
-pub mod rests;
+pub mod suffixes;
 pub mod symbols;
 
-ghost use Rattle.std.specs.Prelude.{◌≡◌, Contains, IfOk, IfSome, IsNone, Some, slice_get};
+ghost use Rattle.std.specs.Prelude.{◌≡◌, Contains, IfOk, IfSome, IsNone, Some, length, slice_get};
 ghost use Rattle.lalrpop_grammar.specs.Words.{IsWellFormed, Rules, rules_of};
-ghost use Rattle.lalrpop_numbers.specs.numbers.Numbers.{AreNumbers};
 
 use dotted::dotted_productions;
 use expansions::expansions_of;
@@ -18,8 +17,8 @@ use lalrpop_grammar::first::FirstSets;
 use lalrpop_grammar::repr::Symbol;
 use lalrpop_grammar::repr::grammar::Grammar;
 use lalrpop_states::lr1_core::item::Lr0Item;
-use rests::{Rest, rests_of};
 use std::alloc::Global;
+use suffixes::{Suffix, suffixes_of};
 use symbols::{list_symbols, numbers_behind};
 
 /// The symbols and dotted productions of a grammar. The number of each is its place in its list.
@@ -33,11 +32,15 @@ pub struct Numbers<'grammar> {
     pub symbols: Vec<Symbol>,
     /// For each symbol, the numbers of its productions with the dot at the start.
     pub expansions: Vec<Vec<usize>>,
-    /// For each dotted production, its rest, if a nonterminal is after its dot.
-    pub rests: Vec<Option<Rest>>,
+    /// For each dotted production, its suffix, if a nonterminal is after its dot.
+    pub suffixes: Vec<Option<Suffix>>,
+    pub ghost counted: { length behind.items ≡ length items.items },
+    pub ghost expanded: { length expansions.items ≡ length symbols.items },
 }
 
 impl<'grammar> Numbers<'grammar> {
+    ghost use Rattle.lalrpop_numbers.specs.numbers.Numbers.{AreNumbers};
+
     /// The numbers of a grammar. Each symbol of a right side is looked up by its text twice, in
     /// logarithmic time.
     pub fn new(
@@ -53,13 +56,13 @@ impl<'grammar> Numbers<'grammar> {
         let symbols = list_symbols(alloc, &items)?;
         let behind = numbers_behind(alloc, &symbols, &items)?;
         let expansions = expansions_of(alloc, &symbols, &items)?;
-        let rests = rests_of(alloc, first_sets, &grammar.terminals, &items)?;
+        let suffixes = suffixes_of(alloc, first_sets, &grammar.terminals, &items)?;
         Ok(Numbers {
             items,
             behind,
             symbols,
             expansions,
-            rests,
+            suffixes,
         })
     }
 

@@ -7,7 +7,7 @@ pub mod tree;
 ghost use Rattle.std.specs.Prelude.{◌≡◌, ◌<◌, ◌≤◌, length, IfOk, IfErr};
 ghost use Rattle.lalrpop_base.specs.Words.{AreCoherent, contents_in, reduced_productions, IsBeginning, begin, HasOutcome, IsFirstWrong, IsPromptRefusal};
 ghost use Rattle.lalrpop_base.specs.Words.{beside, no_trees, leaves, nodes, AreOfGrammar};
-ghost use Rattle.lalrpop_parser.specs.runs.Answers.{IsAnswer, IsPartialAnswer};
+ghost use Rattle.lalrpop_parser.specs.runs.Answers.{ReportsOutcome, IsPartialAnswer};
 ghost use Rattle.lalrpop_parser.specs.runs.FaithfulAnswers.{ForEachGrammar, ForEachCanonical, HasEnough, HasOneTree, StepsAreRight, IsTreeWithin, IsCutOff, AnswersTrees, IfRefused, IfLimit, IsLimit, TakesBeginning};
 ghost use Rattle.lalrpop_parser.specs.trees.ParseTrees.{tree_of};
 ghost use Rattle.lalrpop_parser.specs.runs.Reading.{HasPartialOutcome};
@@ -33,7 +33,7 @@ pub fn interpret<'a, 'grammar, L: LookaheadInterpret>(
 ) -> Result<ParseTree, InterpretError<'a, 'grammar, L>>
     requires coherent { AreCoherent states.now }
     requires some { 0 < length states.now }
-    ensures outcome { IsAnswer
+    ensures outcome { ReportsOutcome
         (HasOutcome (contents_in (L.holds terminals.now) states.now) tokens.items limit) states.now
         result }
     ensures of_productions { IfOk result

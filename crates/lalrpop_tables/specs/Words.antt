@@ -2,16 +2,16 @@
 pub use Rattle.lalrpop_tables.specs.answers.Lr1Answers.{AreBuiltTablesOf, AreTablesBy, AreTablesOf, FailsOn, HasConflictsOf}
 pub use Rattle.lalrpop_tables.specs.answers.TablesOrCount.{AreBuiltTablesOrCount, AreTablesOrCount}
 pub use Rattle.lalrpop_construction.specs.canonical.CanonicalAnswers.{AreCanonicalTables, AreCanonicalTablesOrCount, FailsByConflicts, HasCanonicalConflicts, IsConflictCount, LacksTables, MatchTablesOrCount, up_to_greatest}
-pub use Rattle.lalrpop_tables.specs.canonical.Laws.{AreNilTables, AreSetTables, IsKeptGrammar, StopsWithNil, StopsWithSets, lr0_of}
+pub use Rattle.lalrpop_tables.specs.canonical.Laws.{AreNilTables, AreSetTables, IsKeptGrammar, StopsWithNil, StopsWithSets, lr0_construction}
 pub use Rattle.lalrpop_check.specs.check.Check.{HoldCarried, PassCheck}
 pub use Rattle.lalrpop_check.specs.check.ExpectedKernels.{AreMovedKernel, IsKernelAt, IsKernelOf, IsMovedNumber, NumbersRise, no_tokens}
-pub use Rattle.lalrpop_construction.specs.closures.EpsilonMoves.{AreBegunWith, AreEpsilonMoves, IsBegunWith}
-pub use Rattle.lalrpop_construction.specs.closures.Sharing.{AllFit, HasShare, IsFront, IsNamed, IsShared, IsSharing, MayFollow, MayFollowIn, Shared, Shares, StandsBehind}
-pub use Rattle.lalrpop_construction.specs.closures.Sharing.{StandsBehindOne, fronts_in, numbered_of, parts_in, unfolded, with_tokens}
-pub use Rattle.lalrpop_tables.specs.collapse.Collapsed.{AreCollapsedTables, AreOrdered, FailsByCollapse, HoldsAt, IsCollapsed, IsMerge, IsNumbered, IsOrderedState}
+pub use Rattle.lalrpop_construction.specs.closures.EpsilonMoves.{AreItemsAtStart, AreEpsilonMoves, IsItemAtStart}
+pub use Rattle.lalrpop_construction.specs.closures.Propagation.{AllFit, HasTokensThatFollow, IsExpansionWith, IsNamed, IsPropagated, IsPropagation, MayFollow, MayFollowIn, NonterminalTokens, Propagates, StandsBehind}
+pub use Rattle.lalrpop_construction.specs.closures.Propagation.{StandsBehindOne, expansions_in, numbered_of, parts_in, unfolded, with_tokens}
+pub use Rattle.lalrpop_tables.specs.collapse.Collapsed.{AreCollapsedTables, AreOrdered, FailsByCollapse, HoldsAt, IsCollapsed, IsMerge, HasNewNumber, IsOrderedState}
 pub use Rattle.lalrpop_tables.specs.collapse.Collapsed.{OfMember, ReducesBy, ReducesOn, dots_in}
 pub use Rattle.lalrpop_tables.specs.collapse.Lalr.{AreLalrTables, AreMergedTables, AreRenumberedMerged, Collapses, FailsAsLalr, HasCoherentStates, HasOrderedStates}
-pub use Rattle.lalrpop_construction.specs.conflicts.CanonicalConflicts.{AreCanonicalConflictsOf, FailByCanonicalConflicts, ShiftsLead, StatesAscend, listed_of}
+pub use Rattle.lalrpop_construction.specs.conflicts.CanonicalConflicts.{AreCanonicalConflictsOf, AreConflictsOfFailure, ShiftsLead, StatesAscend, listed_of}
 pub use Rattle.lalrpop_construction.specs.conflicts.ListedConflicts.{conflict_of, conflicts_of}
 pub use Rattle.lalrpop_construction.specs.construction.Building.{AreMadeSoFar, Building}
 pub use Rattle.lalrpop_construction.specs.construction.EarlyStop.{AreEnough, AreMadeFor, AreMadeUntilBy, ArePartlyBuilt, ArePartlyBuiltBy, AreSomeCanonicalStates}
@@ -31,27 +31,27 @@ pub use Rattle.lalrpop_state_graph.specs.graphs.StateGraph.{list_at, listed, now
 pub use Rattle.lalrpop_state_graph.specs.graphs.StateGraph.{targets_of, with_symbol}
 pub use Rattle.lalrpop_lane_states.specs.lane_states.LaneStates.{AreLalrLaneTables, AreLaneStates, AreLaneTables, AreLr0Tables, AreTraced}
 pub use Rattle.lalrpop_lane_states.specs.lane_states.LaneStates.{HasActionBit, HaveFullItems, HaveMeetingLanes}
-pub use Rattle.lalrpop_lane_states.specs.lane_states.LaneStates.{HoldAllFrom, HoldsAll, IsAttempted, IsBitAt, IsFull, IsPromoted, IsResolvedAt, IsStep}
+pub use Rattle.lalrpop_lane_states.specs.lane_states.LaneStates.{HoldAllFrom, HoldsAll, IsAttempted, IsBitAt, IsFull, IsPromoted, IsResolvedAt, IsStateStep}
 pub use Rattle.lalrpop_lane_states.specs.lane_states.LaneStates.{IsTokenOf, promoted_item}
 pub use Rattle.lalrpop_lane_states.specs.lane_states.LaneStates.{promoted_reduction}
 pub use Rattle.lalrpop_lane_states.specs.lane_states.Lr0Copies.{AreClosedTables, AreCopiedConflicts, AreCopiedTables, AreLr0Copies, FailsByCopies}
-pub use Rattle.lalrpop_lane_states.specs.lane_states.Resolving.{AreResolvedUpTo, HasOverlap, HasSameReductions, IsApartAt, IsCopied, IsResolving, IsTried}
-pub use Rattle.lalrpop_lanes.specs.lane_tables.LaneRows.{AddsRows, AreGathered, AreRowsOf, Cells, HasCells, HasIn, HasNext, JoinsRow, MakesRow, MeetsRow, Rows, StandsFor}
+pub use Rattle.lalrpop_lane_states.specs.lane_states.Resolving.{AreResolvedUpTo, HasOverlap, HasSameReductions, IsApartAt, IsCopied, IsResolving, IsResolveStep}
+pub use Rattle.lalrpop_lanes.specs.lane_tables.LaneRows.{AddsRows, AreGathered, AreRowsOf, Cells, HasCells, HasIn, HasSuccessor, JoinsRow, MakesRow, MeetsRow, Rows, AreColumnsOf}
 pub use Rattle.lalrpop_lanes.specs.lane_tables.LaneRows.{Successors, ThisRow, row_at}
 pub use Rattle.lalrpop_lanes.specs.lane_tables.LaneTableStates.{AreReached, HasCellsBelow, IsClosedEdge}
 pub use Rattle.lalrpop_lanes.specs.lane_tables.LaneTables.{AddsSuccessor, AddsTokens, AreColumns, AreInRange, AreSameTables, ColumnsOverlap, HasCell, HasRow, InColumn}
 pub use Rattle.lalrpop_lanes.specs.lane_tables.LaneTables.{IsBeachhead, IsClosed, IsEmptyTable, IsRow, IsSuccessor, KeepsAll, RowOverlaps, column}
 pub use Rattle.lalrpop_lanes.specs.lanes.Contexts.{AreAmong, AreDisjoint, AreReducedAmong, HasAt, IsApplied, IsJoinedIn, IsReductionAt, IsUnion, MeetInUnion}
 pub use Rattle.lalrpop_lanes.specs.lanes.Contexts.{MeetsOther, Reduces, TookColumn}
-pub use Rattle.lalrpop_follow_sets.specs.lanes.FollowGraphs.{HasBitAtOnce, HasLookbackNodes, HaveBegunNodes, IsFollowGraph, IsFollowNode, IsUnionOver}
+pub use Rattle.lalrpop_follow_sets.specs.lanes.FollowGraphs.{HasBitAtOnce, HasLookbackNodes, HaveNodesAtStart, IsFollowGraph, IsFollowNode, IsUnionOver}
 pub use Rattle.lalrpop_follow_sets.specs.lanes.FollowSets.{FollowsAtOnce, HasLookaheadBits, HoldsLookaheads, InFollow, IncludesFollow, IsLookahead, LeadsOver, at_once}
 pub use Rattle.lalrpop_follow_sets.specs.lanes.FollowSets.{ends_input, included, is_first_behind}
 pub use Rattle.lalrpop_lane_states.specs.lanes.LaneActions.{ActionsAscend, AreActions}
 pub use Rattle.lalrpop_lane_states.specs.lanes.LaneActions.{action_order, asked_actions, conflict_actions}
 pub use Rattle.lalrpop_lane_states.specs.lanes.LaneActions.{reduce_action}
 pub use Rattle.lalrpop_lanes.specs.lanes.LaneSteps.{AddsNothing, AreExpanded, Gains, GainsAll, GainsOf, GainsSome, GainsSomeOf, GainsSomeOfAll, GivesBit, GivesCell}
-pub use Rattle.lalrpop_lanes.specs.lanes.LaneSteps.{GivesSuccessor, IsEnd, IsEndBit, IsEndPlace, IsFollowBit, IsGround, IsHere, IsPair, IsParent, IsPassedOn, IsPlaceIf}
-pub use Rattle.lalrpop_lanes.specs.lanes.LaneSteps.{Nothing, Nowhere, Reaches, Some_of, VisitsOf, rest_of}
+pub use Rattle.lalrpop_lanes.specs.lanes.LaneSteps.{GivesSuccessor, IsEnd, IsEndBit, IsEndPlace, IsFollowBit, IsAutomaton, IsHere, IsPair, IsParent, IsPassedOn, IsPlaceIf}
+pub use Rattle.lalrpop_lanes.specs.lanes.LaneSteps.{Nothing, Nowhere, TracesTo, Some_of, VisitsOf, symbols_after_next}
 pub use Rattle.lalrpop_follow_sets.specs.lanes.LaneTokens.{HasLaneBits}
 pub use Rattle.lalrpop_follow_sets.specs.lanes.LaneTokens.{IsLaneAction, IsResolved}
 pub use Rattle.lalrpop_follow_sets.specs.lanes.LaneTokens.{LanesMeet}
@@ -59,8 +59,8 @@ pub use Rattle.lalrpop_lanes.specs.lanes.LaneTraces.{GivesAt, HaveOwnItems, IsLa
 pub use Rattle.lalrpop_lanes.specs.lanes.LaneTraces.{TakesPartOfLane}
 pub use Rattle.lalrpop_lane_states.specs.merges.MergeWalks.{ComesTo, HasJoinedBut, IsJoin, IsJoinMade, IsMergeWalk, join_to, joins_to, most_joins}
 pub use Rattle.lalrpop_lane_states.specs.merges.Merges.{Advances, AreApart, AreTargetsAmong, AreUnited, HasJoined, HasWalked, HaveNoNewMarks, HaveWalked, HasEdge, HasTarget}
-pub use Rattle.lalrpop_lane_states.specs.merges.Merges.{IsApart, IsContext, IsFresh, IsJoinedCopy, IsLedTo, IsLimit, IsLinked, IsLonger, IsMerging, IsPatchable, IsPushed, IsResolvedCopy, IsTaken}
-pub use Rattle.lalrpop_lane_states.specs.merges.Merges.{CannotJoin, IsApartIfNone, IsRefusedJoin, IsVisited, IsWalked, KeepsStates, TookOwnColumns, replaced, unset, unvisited}
+pub use Rattle.lalrpop_lane_states.specs.merges.Merges.{IsApart, IsContext, IsFreshCopy, IsJoinedCopy, IsRedirected, IsCopyLimit, IsLinked, IsLonger, IsMerging, IsPatchable, IsPushed, IsResolvedCopy, IsTaken}
+pub use Rattle.lalrpop_lane_states.specs.merges.Merges.{CannotJoin, IsApartIfNone, IsRefusedJoin, IsVisited, HasOriginalRow, KeepsStates, TookOwnColumns, replaced_number, unset, unvisited}
 pub use Rattle.lalrpop_lane_states.specs.merges.StateSets.{AddsColumns, AreJoined, HasSet, IsJoint, IsMade, OwnSets, columns_of, context_of, replaced_entry, replaced_set}
 pub use Rattle.lalrpop_lane_states.specs.merges.StateSets.{set_of}
 pub use Rattle.lalrpop_tables.specs.renumbering.RenumberedTables.{AreRenumberedCopies, AreRenumberedLaneTables, AreRenumberedTables}

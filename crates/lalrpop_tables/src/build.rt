@@ -11,7 +11,7 @@ use by_lanes::tables_by_lanes;
 use lalrpop_base::lookahead::nil::Nil;
 use lalrpop_base::lr1_core::state::{Lr1Result, Lr1State};
 use lalrpop_base::memory::OutOfMemory;
-pub use lalrpop_base::numbers::rests::Rest;
+pub use lalrpop_base::numbers::suffixes::Suffix;
 use lalrpop_base::repr::NonterminalString;
 use lalrpop_base::repr::grammar::Grammar;
 use lalrpop_construction::construction::canonical::{

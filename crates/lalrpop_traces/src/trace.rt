@@ -1,15 +1,15 @@
 //! Backtraces: graphs of how a state came to have an item, and examples of input that lead there.
+mod context;
+mod edges_of_items;
 pub mod enumerator;
 pub mod example;
 pub mod filtered;
-mod giving;
-mod ground;
-mod known;
-mod meeting;
 pub mod node;
 mod nullable;
 mod spelling;
+mod terminals_known;
 pub mod trace_graph;
+mod walk_back;
 
 ghost use Rattle.std.specs.Prelude.{◌≡◌, IfOk};
 ghost use Rattle.lalrpop_traces.specs.traces.Meetings.{asked};
@@ -18,25 +18,25 @@ ghost use Rattle.lalrpop_traces.specs.traces.TraceGraphs.{AreKnownEdges};
 ghost use Rattle.lalrpop_traces.specs.traces.TraceOrder.{IsInOrder};
 ghost use Rattle.lalrpop_traces.specs.traces.Traces.{HasOwnProductions, HasOwnTerminals, IsTraceOf, shift_traced, reduction_traced};
 
+use context::{Context, Trace, Traced};
 pub use enumerator::PathEnumerator;
 pub use example::{Example, ExampleSymbol, Reduction};
 pub use filtered::FilteredPathEnumerator;
-use ground::{Ground, Trace, Traced};
 use lalrpop_base::first::FirstSets;
 use lalrpop_base::lr1_core::item::Lr0Item;
 use lalrpop_base::lr1_core::state::{Lr1State, StateIndex};
 use lalrpop_base::memory::OutOfMemory;
 use lalrpop_state_graph::state_graph::StateGraph;
-use meeting::{Met, trace_item};
 pub use node::TraceGraphNode;
 use std::alloc::Global;
 use std::collections::BTreeSet;
 pub use trace_graph::{NodeIndex, TraceGraph, TraceGraphEdge};
+use walk_back::{Met, trace_item};
 
 /// Makes backtraces over states.
 #[derive(Drop)]
 pub struct Tracer<'trace, 'grammar> {
-    ground: Ground<'trace, 'grammar>,
+    context: Context<'trace, 'grammar>,
 }
 
 impl<'trace, 'grammar> Tracer<'trace, 'grammar> {
@@ -47,11 +47,11 @@ impl<'trace, 'grammar> Tracer<'trace, 'grammar> {
         first_sets: &'trace FirstSets<'grammar>,
         states: &'trace [Lr1State<'grammar>],
     ) -> Result<Self, OutOfMemory>
-        ensures states { IfOk result (λ tracer. tracer.ground.states.now ≡ states.now) }
-        ensures rules { IfOk result (λ tracer. tracer.ground.first_sets.now ≡ first_sets.now) }
+        ensures states { IfOk result (λ tracer. tracer.context.states.now ≡ states.now) }
+        ensures rules { IfOk result (λ tracer. tracer.context.first_sets.now ≡ first_sets.now) }
     {
         Ok(Tracer {
-            ground: Ground {
+            context: Context {
                 states,
                 first_sets,
                 state_graph: StateGraph::new(alloc, states)?,
@@ -68,25 +68,25 @@ impl<'trace, 'grammar> Tracer<'trace, 'grammar> {
         item: Lr0Item<'grammar>,
     ) -> Result<TraceGraph<'grammar>, OutOfMemory>
         ensures traced { IfOk result (IsTraceOf (shift_traced
-            self.now.ground.first_sets.now.productions self.now.ground.states.now state
+            self.now.context.first_sets.now.productions self.now.context.states.now state
             item.entry)) }
         ensures ordered { IfOk result (IsInOrder (shift_traced
-            self.now.ground.first_sets.now.productions self.now.ground.states.now state
+            self.now.context.first_sets.now.productions self.now.context.states.now state
             item.entry)) }
         ensures right_sides { IfOk result (λ graph. HasOwnProductions (shift_traced
-            self.now.ground.first_sets.now.productions self.now.ground.states.now state
+            self.now.context.first_sets.now.productions self.now.context.states.now state
             item.entry) →
-            CarryRightSides self.now.ground.first_sets.now.productions graph.edges) }
-        ensures known { IfOk result (λ graph. HasOwnTerminals self.now.ground.first_sets.now →
-            HasOwnProductions (shift_traced self.now.ground.first_sets.now.productions
-            self.now.ground.states.now state item.entry) →
-            AreKnownEdges self.now.ground.first_sets.now.terminals graph.edges) }
+            CarryRightSides self.now.context.first_sets.now.productions graph.edges) }
+        ensures known { IfOk result (λ graph. HasOwnTerminals self.now.context.first_sets.now →
+            HasOwnProductions (shift_traced self.now.context.first_sets.now.productions
+            self.now.context.states.now state item.entry) →
+            AreKnownEdges self.now.context.first_sets.now.terminals graph.edges) }
     {
         let trace = Trace {
             traced: Traced::Shift,
             state,
             item,
-            ground: &self.ground,
+            context: &self.context,
         };
         graph_of(alloc, &trace)
     }
@@ -101,25 +101,25 @@ impl<'trace, 'grammar> Tracer<'trace, 'grammar> {
         item: Lr0Item<'grammar>,
     ) -> Result<TraceGraph<'grammar>, OutOfMemory>
         ensures traced { IfOk result (IsTraceOf (reduction_traced
-            self.now.ground.first_sets.now.productions self.now.ground.states.now state
+            self.now.context.first_sets.now.productions self.now.context.states.now state
             item.entry)) }
         ensures ordered { IfOk result (IsInOrder (reduction_traced
-            self.now.ground.first_sets.now.productions self.now.ground.states.now state
+            self.now.context.first_sets.now.productions self.now.context.states.now state
             item.entry)) }
         ensures right_sides { IfOk result (λ graph. HasOwnProductions (reduction_traced
-            self.now.ground.first_sets.now.productions self.now.ground.states.now state
+            self.now.context.first_sets.now.productions self.now.context.states.now state
             item.entry) →
-            CarryRightSides self.now.ground.first_sets.now.productions graph.edges) }
-        ensures known { IfOk result (λ graph. HasOwnTerminals self.now.ground.first_sets.now →
-            HasOwnProductions (reduction_traced self.now.ground.first_sets.now.productions
-            self.now.ground.states.now state item.entry) →
-            AreKnownEdges self.now.ground.first_sets.now.terminals graph.edges) }
+            CarryRightSides self.now.context.first_sets.now.productions graph.edges) }
+        ensures known { IfOk result (λ graph. HasOwnTerminals self.now.context.first_sets.now →
+            HasOwnProductions (reduction_traced self.now.context.first_sets.now.productions
+            self.now.context.states.now state item.entry) →
+            AreKnownEdges self.now.context.first_sets.now.terminals graph.edges) }
     {
         let trace = Trace {
             traced: Traced::Reduce,
             state,
             item,
-            ground: &self.ground,
+            context: &self.context,
         };
         graph_of(alloc, &trace)
     }
@@ -133,10 +133,10 @@ fn graph_of<'grammar>(
     ensures traced { IfOk result (IsTraceOf (asked trace.now)) }
     ensures ordered { IfOk result (IsInOrder (asked trace.now)) }
     ensures right_sides { IfOk result (λ graph. HasOwnProductions (asked trace.now) →
-        CarryRightSides trace.now.ground.now.first_sets.now.productions graph.edges) }
-    ensures known { IfOk result (λ graph. HasOwnTerminals trace.now.ground.now.first_sets.now →
+        CarryRightSides trace.now.context.now.first_sets.now.productions graph.edges) }
+    ensures known { IfOk result (λ graph. HasOwnTerminals trace.now.context.now.first_sets.now →
         HasOwnProductions (asked trace.now) →
-        AreKnownEdges trace.now.ground.now.first_sets.now.terminals graph.edges) }
+        AreKnownEdges trace.now.context.now.first_sets.now.terminals graph.edges) }
 {
     let mut met = Met {
         trace_graph: TraceGraph::new(alloc),

@@ -8,7 +8,7 @@ use Rattle.lalrpop_lanes.specs.declared.lane_table.lane.LaneTracer.{LaneTracer}
 
 -- the states are coherent and have items of a well-formed grammar, and the state whose actions are
 -- traced is among them
-pub record AreReady (traces : Traces) : Type 0 where
+pub record AreReadyToTrace (traces : Traces) : Type 0 where
   pub well_formed : IsWellFormed traces.grammar.now
   pub coherent : AreCoherent traces.states.items
   pub own : HaveOwnItems (productions traces.grammar.now) traces.states.items

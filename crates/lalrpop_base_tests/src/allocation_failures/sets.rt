@@ -146,7 +146,7 @@ fn a_joined_set(rt: HostRuntime) -> Result<(), Fail> {
 #[derive(Drop)]
 struct Repeated {
     list: Vec<TerminalString>,
-    owed: TerminalSetError,
+    expected: TerminalSetError,
 }
 
 impl Attempt for Repeated {
@@ -156,7 +156,7 @@ impl Attempt for Repeated {
         };
         match TerminalSet::new(alloc, list) {
             Err(TerminalSetError::Memory) => None,
-            Err(error) => Some(error == self.owed),
+            Err(error) => Some(error == self.expected),
             Ok(_) => Some(false),
         }
     }
@@ -167,7 +167,7 @@ fn a_repeated_terminal(rt: HostRuntime) -> Result<(), Fail> {
     let alloc = rt.alloc();
     let mut repeated = Repeated {
         list: literals(alloc, &["a", "b", "c", "b", "a"])?,
-        owed: TerminalSetError::Repeated(literal(alloc, "b")?),
+        expected: TerminalSetError::Repeated(literal(alloc, "b")?),
     };
     each_growth_refused(alloc, &mut repeated)
 }

@@ -9,9 +9,9 @@ use Rattle.lalrpop_states.specs.declared.lr1_core.state.State.{State}
 use Rattle.lalrpop_grammar.specs.declared.repr.NonterminalString.{NonterminalString}
 use Rattle.lalrpop_grammar.specs.declared.repr.Production.{Production}
 use Rattle.lalrpop_follow_sets.specs.follow_sets.FollowWalks.{IsInUnion, entries_at}
-use Rattle.lalrpop_construction.specs.states.NumberedStates.{AreItemsAt, AreReducedNumbers, HasFinished, IsNumberedState, items_at, transitions_at}
+use Rattle.lalrpop_construction.specs.states.NumberedStates.{AreItemsAt, AreReducedNumbers, HasFinished, IsNumberedState, item_numbers_at, transitions_at}
 use Rattle.lalrpop_numbers.specs.declared.numbers.Numbers.{Numbers}
-use Rattle.lalrpop_follow_sets.specs.declared.follow_sets.found.Found.{Found}
+use Rattle.lalrpop_follow_sets.specs.declared.follow_sets.sets.FollowSets.{FollowSets}
 use Rattle.lalrpop_construction.specs.declared.construction.numbered_state.NumberedState.{NumberedState}
 
 -- ---- one state
@@ -44,21 +44,21 @@ pub record AreListedByNumber (g : Rules) (start : NonterminalString) (n : Number
 -- ---- the targets of symbols
 -- the symbol x leads to a state that lists the moved item. Below, this is so for the symbol after
 -- the item's dot, if there is one
-pub record LeadsOver (list : List NumberedState) (edges : List (ℕ × ℕ)) (item x : ℕ) : Type 0 where
+pub record LeadsByNumber (list : List NumberedState) (edges : List (ℕ × ℕ)) (item x : ℕ) : Type 0 where
   pub target : ℕ
   pub edge : Contains edges (x, target)
-  pub moved : Contains (items_at list target) (item + 1)
+  pub moved : Contains (item_numbers_at list target) (item + 1)
 
-abbrev pub LeadsOn : Numbers → List NumberedState → List (ℕ × ℕ) → ℕ → Type 0
-LeadsOn n list edges item = (x : ℕ) → slice_get n.behind.items item ≡ Some (Some x) → LeadsOver list edges item x
+abbrev pub LeadsOnByNumber : Numbers → List NumberedState → List (ℕ × ℕ) → ℕ → Type 0
+LeadsOnByNumber n list edges item = (x : ℕ) → slice_get n.behind.items item ≡ Some (Some x) → LeadsByNumber list edges item x
 
 -- the symbol after the dot of each item of the state leads to a state that lists the moved item
-abbrev pub LeadOn : Numbers → List NumberedState → NumberedState → Type 0
-LeadOn n list state = (item : ℕ) → Contains state.items.items item → LeadsOn n list state.edges.items item
+abbrev pub ItemsLeadOn : Numbers → List NumberedState → NumberedState → Type 0
+ItemsLeadOn n list state = (item : ℕ) → Contains state.items.items item → LeadsOnByNumber n list state.edges.items item
 
 -- the same of each state of the list
-abbrev pub AllLeadOn : Numbers → List NumberedState → Type 0
-AllLeadOn n list = (s : ℕ) (state : NumberedState) → slice_get list s ≡ Some state → LeadOn n list state
+abbrev pub AllItemsLeadOn : Numbers → List NumberedState → Type 0
+AllItemsLeadOn n list = (s : ℕ) (state : NumberedState) → slice_get list s ≡ Some state → ItemsLeadOn n list state
 
 -- ---- which states are reached
 pub data IsReachedByNumber (list : List NumberedState) : ℕ → Type 0 where
@@ -95,5 +95,5 @@ abbrev pub HoldSets : List (Bits × Bor Production) → List Bits → Type 0
 HoldSets reductions sets = (j bit : ℕ) (r : Bits × Bor Production) (set : Bits) → slice_get reductions j ≡ Some r → slice_get sets j ≡ Some set → has set bit ≡ true → has r.0 bit ≡ true
 
 -- each reduction of each state holds all tokens of the union for its finished item
-abbrev pub HoldUnions : Found → List (State Bits) → List NumberedState → Type 0
+abbrev pub HoldUnions : FollowSets → List (State Bits) → List NumberedState → Type 0
 HoldUnions found states list = (s j k : ℕ) (old : State Bits) (state : NumberedState) (r : Bits × Bor Production) → slice_get states s ≡ Some old → slice_get list s ≡ Some state → slice_get old.reductions.items j ≡ Some r → slice_get state.reductions.items j ≡ Some k → HoldsUnion found.follow.items (entries_at found.lookback.items s) k r.0

@@ -9,7 +9,7 @@ use Rattle.lalrpop_grammar.specs.declared.lookahead.token.Token.{Token}
 use Rattle.lalrpop_states.specs.declared.lr1_core.state.State.{State}
 use Rattle.lalrpop_grammar.specs.declared.repr.NonterminalString.{NonterminalString}
 use Rattle.lalrpop_grammar.specs.declared.repr.grammar.Grammar.{Grammar}
-use Rattle.lalrpop_states.specs.conflicts.AllConflicts.{HaveNoConflict}
+use Rattle.lalrpop_states.specs.conflicts.AllConflicts.{AreAllConflictFree}
 
 -- each reduction holds the tokens that are carried to its finished item from state 0, over the
 -- states' own edges
@@ -24,4 +24,4 @@ pub record PassCheck (g : Grammar) (start : NonterminalString) (states : List (S
   pub closed : AreClosed (productions g) start (contents g.terminals states)
   pub reductions : (n : ℕ) → ReducesFinished (contents g.terminals states n)
   pub carried : HoldCarried g start states
-  pub no_conflict : HaveNoConflict g.terminals states
+  pub no_conflict : AreAllConflictFree g.terminals states

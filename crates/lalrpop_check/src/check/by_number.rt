@@ -22,7 +22,7 @@ use lalrpop_base::repr::NonterminalString;
 use lalrpop_base::repr::grammar::Grammar;
 use lalrpop_construction::construction::lr::Lr;
 use lalrpop_construction::construction::numbered_state::NumberedState;
-use lalrpop_follow_sets::follow_sets::Found;
+use lalrpop_follow_sets::follow_sets::FollowSets;
 use std::alloc::Global;
 
 // Whether states that are known to list closures by number pass the check. A `false` says nothing.
@@ -55,7 +55,7 @@ fn numbered_pass<'grammar>(
     if !have_no_conflict(alloc, states, &grammar.terminals)? {
         return Ok(false);
     }
-    let found = Found::new(alloc, grammar, start, states, numbers, numbered)?;
+    let found = FollowSets::new(alloc, grammar, start, states, numbers, numbered)?;
     let held = hold_lookaheads(alloc, grammar, states, &found, numbered)?;
     Ok(held)
 }

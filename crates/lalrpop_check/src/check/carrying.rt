@@ -1,8 +1,8 @@
 //! Tokens that are carried over the edges of states.
 ghost use Rattle.std.specs.Prelude.{◌≡◌, ◌<◌, ◌↔◌, IfOk, OnOk, Contains, IsTrue, Some, true};
 ghost use Rattle.std.specs.Map.{keys_of};
-ghost use Rattle.lalrpop_base.specs.Words.{AreClosed, contents, EachItem, AllDiffer, IsWellFormed, productions, productions_of, rules_of, Sends, IsBegunAt, IsOver};
-ghost use Rattle.lalrpop_base.specs.Words.{Gives, target_in, AreCarried, HoldsCarried, AllHoldCarried};
+ghost use Rattle.lalrpop_base.specs.Words.{AreClosed, contents, EachItem, AllDiffer, IsWellFormed, productions, productions_of, rules_of, Sends, IsPlaceAtStart, IsOver};
+ghost use Rattle.lalrpop_base.specs.Words.{CarriesFromPlace, target_in, AreCarried, HoldsTableTokens, AllHoldTableTokens};
 ghost use Rattle.lalrpop_collections.specs.lists.Entries.{IsQueued};
 
 use super::states::target;
@@ -50,7 +50,8 @@ fn send_productions<'grammar>(
     table: &mut Table<'grammar>,
     queue: &mut VecDeque<Place<'grammar>>,
 ) -> Result<(), OutOfMemory>
-    ensures { OnOk result (Sends (IsBegunAt state (productions_of grammar.now name.now)) tokens.now
+    ensures { OnOk result (Sends (IsPlaceAtStart state
+        (productions_of grammar.now name.now)) tokens.now
         table.old.entries table.new.entries queue.old.items queue.new.items) }
 {
     for production in grammar.productions_for(name) {
@@ -134,7 +135,7 @@ fn send_on<'grammar>(
     requires known { Contains (productions grammar.now) place.now.item.production }
     requires found { Contains (keys_of table.old.entries) place.now }
     requires differ { AllDiffer (keys_of table.old.entries) }
-    ensures { OnOk result (Gives grammar.now states.now place.now table.old.entries
+    ensures { OnOk result (CarriesFromPlace grammar.now states.now place.now table.old.entries
         table.new.entries queue.old.items queue.new.items) }
 {
     let tokens = tokens_at(alloc, table, place)?;
@@ -186,7 +187,8 @@ fn holds_carried<'grammar>(
     reduction: &(TokenSet, &'grammar Production),
 ) -> Result<bool, OutOfMemory>
     requires { AllDiffer (keys_of table.now.entries) }
-    ensures { IfOk result (λ yes. IsTrue yes ↔ HoldsCarried table.now.entries state reduction.now) }
+    ensures { IfOk result (λ yes. IsTrue yes ↔
+        HoldsTableTokens table.now.entries state reduction.now) }
 {
     let production = reduction.1;
     let item = Item::lr0(production, production.symbols.len());
@@ -207,7 +209,7 @@ fn have_carried<'grammar>(
 ) -> Result<bool, OutOfMemory>
     requires { AllDiffer (keys_of table.now.entries) }
     ensures { IfOk result
-        (λ yes. IsTrue yes ↔ EachItem (HoldsCarried table.now.entries state) reductions.now) }
+        (λ yes. IsTrue yes ↔ EachItem (HoldsTableTokens table.now.entries state) reductions.now) }
 {
     for reduction in reductions {
         if !holds_carried(alloc, table, state, reduction)? {
@@ -225,7 +227,7 @@ pub fn all_have_carried<'grammar>(
     states: &[Lr1State<'grammar>],
 ) -> Result<bool, OutOfMemory>
     requires { AllDiffer (keys_of table.now.entries) }
-    ensures { IfOk result (λ yes. IsTrue yes ↔ AllHoldCarried table.now.entries states.now) }
+    ensures { IfOk result (λ yes. IsTrue yes ↔ AllHoldTableTokens table.now.entries states.now) }
 {
     for (number, state) in states.iter().enumerate() {
         if !have_carried(alloc, table, number, &state.reductions)? {

@@ -1,6 +1,6 @@
 //! The closure of dotted productions, without tokens.
 ghost use Rattle.std.specs.Prelude.{◌≡◌, [], ◌∷◌, IfOk, OnOk, Contains, map};
-ghost use Rattle.lalrpop_base.specs.Words.{IsAtStart, IsWellFormed, productions, productions_of, AllWait, Visits, IsBegun, IsExpansionOf, IsMovedIn, IsMovedOf};
+ghost use Rattle.lalrpop_base.specs.Words.{IsAtStart, IsWellFormed, productions, productions_of, AllWait, Visits, IsOneAtStart, IsExpansionOf, IsMovedIn, IsMovedOf};
 ghost use Rattle.lalrpop_base.specs.Words.{AreClosure};
 ghost use Rattle.lalrpop_states.specs.closures.Closure.{dotted_of};
 
@@ -33,7 +33,7 @@ fn visit_productions<'grammar>(
     walk: &mut Walk<Lr0Item<'grammar>>,
 ) -> Result<(), OutOfMemory>
     ensures { OnOk result
-        (Visits (IsBegun (productions_of grammar.now name.now)) walk.old walk.new) }
+        (Visits (IsOneAtStart (productions_of grammar.now name.now)) walk.old walk.new) }
 {
     for production in grammar.productions_for(name) {
         let item = Item {

@@ -3,7 +3,7 @@ ghost use Rattle.std.specs.Prelude.{◌≡◌, ◌↔◌, ◌⊎◌, ℕ, IfOk, 
 ghost use Rattle.lalrpop_base.specs.Words.{Bits, IsAtStart, Dotted, AllDiffer, IsWellFormed, productions, AreClosure, LeadsBy, LeadsFrom, IsTarget, Lists};
 ghost use Rattle.lalrpop_base.specs.Words.{finished, LeadsOn, IsRightItem, IsRightTarget, IsRightState, AreRightStates};
 ghost use Rattle.lalrpop_states.specs.declared.lookahead.nil.Nil.{Nil};
-ghost use Rattle.lalrpop_states.specs.states.CheckStates.{target_of, reduced, AreListed};
+ghost use Rattle.lalrpop_states.specs.states.CheckStates.{target_of, productions_of_reductions, AreListed};
 
 use super::closing::{Set, moved_closure, start_closure};
 use lalrpop_base::collections::sets::{add_key, has_key, have_same};
@@ -143,10 +143,10 @@ fn is_right_item<'grammar>(
     item: &Lr1Item<'grammar>,
 ) -> bool
     requires { (p : Production) →
-        Contains reductions.now.keys (finished p) ↔ Contains (reduced state.now.reductions.items)
-        p }
-    ensures { IsTrue result ↔ IsRightItem listed.now state.now (reduced state.now.reductions.items)
-        item.now }
+        Contains reductions.now.keys (finished p) ↔
+        Contains (productions_of_reductions state.now.reductions.items) p }
+    ensures { IsTrue result ↔ IsRightItem listed.now state.now
+        (productions_of_reductions state.now.reductions.items) item.now }
 {
     if !leads_on(listed, state, item) {
         return false;
@@ -164,11 +164,11 @@ fn are_right_items<'grammar>(
     reductions: &Set<'grammar>,
 ) -> bool
     requires { (p : Production) →
-        Contains reductions.now.keys (finished p) ↔ Contains (reduced state.now.reductions.items)
-        p }
+        Contains reductions.now.keys (finished p) ↔
+        Contains (productions_of_reductions state.now.reductions.items) p }
     ensures { IsTrue result ↔ ((i : Dotted Bits) →
         Contains state.now.items.vec.items i →
-        IsRightItem listed.now state.now (reduced state.now.reductions.items) i) }
+        IsRightItem listed.now state.now (productions_of_reductions state.now.reductions.items) i) }
 {
     for item in state.items.vec.iter() {
         if !is_right_item(listed, state, reductions, item) {
@@ -183,9 +183,10 @@ fn reduced_items<'grammar>(
     alloc: Global,
     reductions: &[(TokenSet, &'grammar Production)],
 ) -> Result<Option<Set<'grammar>>, OutOfMemory>
-    ensures { IfOk result (λ found. MatchOption found (¬ AllDiffer (reduced reductions.now))
-        (λ set. AllDiffer (reduced reductions.now) × ((p : Production) →
-        Contains set.keys (finished p) ↔ Contains (reduced reductions.now) p))) }
+    ensures { IfOk result (λ found. MatchOption found (¬ AllDiffer
+        (productions_of_reductions reductions.now))
+        (λ set. AllDiffer (productions_of_reductions reductions.now) × ((p : Production) →
+        Contains set.keys (finished p) ↔ Contains (productions_of_reductions reductions.now) p))) }
 {
     let mut set = BTreeSet::new(alloc);
     for reduction in reductions {
@@ -249,8 +250,9 @@ fn has_right_actions<'grammar>(
 ) -> Result<bool, OutOfMemory>
     ensures { IfOk result (λ yes. IsTrue yes ↔ (((i : Dotted Bits) →
         Contains state.now.items.vec.items i →
-        IsRightItem listed.now state.now (reduced state.now.reductions.items) i) × AllDiffer
-        (reduced state.now.reductions.items))) }
+        IsRightItem listed.now state.now
+        (productions_of_reductions state.now.reductions.items) i) × AllDiffer
+        (productions_of_reductions state.now.reductions.items))) }
 {
     let Some(reductions) = reduced_items(alloc, &state.reductions)? else {
         return Ok(false);

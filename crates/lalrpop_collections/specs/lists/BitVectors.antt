@@ -56,9 +56,9 @@ word_joined (suc place) word [] = 0 ∷ word_joined place word []
 word_joined (suc place) word (w ∷ ws) = w ∷ word_joined place word ws
 
 -- the words of the bit vector that has exactly these numbers
-abbrev pub words_of : List ℕ → List ℕ
-words_of [] = []
-words_of (n ∷ ns) = word_joined (n / 64) (2 ^ (n % 64)) (words_of ns)
+abbrev pub bit_words : List ℕ → List ℕ
+bit_words [] = []
+bit_words (n ∷ ns) = word_joined (n / 64) (2 ^ (n % 64)) (bit_words ns)
 
 -- a word mixed into a state, as the kit's FoldHasher mixes a word, except that no length is joined
 -- to the multiplier

@@ -7,15 +7,15 @@ use Rattle.lalrpop_collections.specs.lists.Counts.{count, IsBelow}
 
 -- the tokens are added to the key. A new key gets exactly them, and a known one has them joined to
 -- its own. The flag says whether the key has anything new
-pub data IsJoinedAt {K : Type 0} (k : K) (tokens : Bits) (told : Bool) (old new : List (K × Bits)) : Type 0 where
-  fresh : (front back : List (K × Bits)) → old ≡ front ++ back → new ≡ front ++ (k, tokens) ∷ back → told ≡ true → IsJoinedAt k tokens told old new
-  known : (front back : List (K × Bits)) (s : Bits) → old ≡ front ++ (k, s) ∷ back → new ≡ front ++ (k, join s tokens) ∷ back → MatchBool told (join s tokens ≢ s) (join s tokens ≡ s) → IsJoinedAt k tokens told old new
+pub data IsJoinedAt {K : Type 0} (k : K) (tokens : Bits) (changed : Bool) (old new : List (K × Bits)) : Type 0 where
+  fresh : (front back : List (K × Bits)) → old ≡ front ++ back → new ≡ front ++ (k, tokens) ∷ back → changed ≡ true → IsJoinedAt k tokens changed old new
+  known : (front back : List (K × Bits)) (s : Bits) → old ≡ front ++ (k, s) ∷ back → new ≡ front ++ (k, join s tokens) ∷ back → MatchBool changed (join s tokens ≢ s) (join s tokens ≡ s) → IsJoinedAt k tokens changed old new
 
 -- a key with something new is added at the end of the queue, unless it waits there already. A key
 -- with nothing new is not added
-pub data IsPut {K : Type 0} (key : K) (told : Bool) (queue pushed : List K) : Type 0 where
-  came : pushed ≡ cond told (queue ++ key ∷ []) queue → IsPut key told queue pushed
-  waited : Contains queue key → pushed ≡ queue → IsPut key told queue pushed
+pub data IsPut {K : Type 0} (key : K) (changed : Bool) (queue pushed : List K) : Type 0 where
+  came : pushed ≡ cond changed (queue ++ key ∷ []) queue → IsPut key changed queue pushed
+  waited : Contains queue key → pushed ≡ queue → IsPut key changed queue pushed
 
 -- the tokens are added to the key, and the key is queued if it has anything new
 pub record IsQueued {K : Type 0} (key : K) (tokens : Bits) (old new : List (K × Bits)) (queue pushed : List K) : Type 0 where

@@ -23,10 +23,10 @@ module _ {C I : Type 0} (IsNone : C → Type 0) (Pushes : C → I → C → Type
 
   -- pushes of the values, in turn, into an empty collection make this one. Without values there is
   -- no collection
-  abbrev pub IsCollected : List I → Option C → Type 0
-  IsCollected [] (Some c) = ⊥
-  IsCollected values None = values ≡ []
-  IsCollected (value ∷ values) (Some c) = (empty : C) × IsNone empty × PushesAll empty (value ∷ values) c
+  abbrev pub IsCollectionOf : List I → Option C → Type 0
+  IsCollectionOf [] (Some c) = ⊥
+  IsCollectionOf values None = values ≡ []
+  IsCollectionOf (value ∷ values) (Some c) = (empty : C) × IsNone empty × PushesAll empty (value ∷ values) c
 
 -- the values of the pairs with the key, in turn
 abbrev pub values_at : {K I : Type 0} → (K → K → Ordering) → K → List (K × I) → List I

@@ -16,6 +16,6 @@ abbrev pub waiting_with : ℕ → List ℕ → List ℕ
 waiting_with n numbers = cond (waits numbers n) numbers (numbers ++ n ∷ [])
 
 -- the mark of a number is true exactly if the number waits, and no number waits twice
-pub record IsMarked (numbers : List ℕ) (marks : List Bool) : Type 0 where
+pub record HasWaitingMarks (numbers : List ℕ) (marks : List Bool) : Type 0 where
   pub marked : (k : ℕ) → waits numbers k ≡ slice_index_or marks k false
   pub once : IsDistinct (λ m n. m == n) numbers

@@ -3,5 +3,5 @@
 use Rattle.std.specs.Prelude.{◌≡◌, ℕ, List, slice_get, Some}
 
 -- the place of the number of each entry is the place of that entry
-abbrev pub ArePlaced : {V : Type 0} → List ℕ → List (ℕ × V) → Type 0
-ArePlaced {V} places entries = (place : ℕ) (e : ℕ × V) → slice_get entries place ≡ Some e → slice_get places e.0 ≡ Some place
+abbrev pub AreEntryPlaces : {V : Type 0} → List ℕ → List (ℕ × V) → Type 0
+AreEntryPlaces {V} places entries = (place : ℕ) (e : ℕ × V) → slice_get entries place ≡ Some e → slice_get places e.0 ≡ Some place

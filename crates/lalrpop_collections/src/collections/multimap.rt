@@ -4,7 +4,7 @@ ghost use Rattle.std.specs.Ordering.{is_eq};
 ghost use Rattle.std.specs.Iterator.{IsFinite, Drains};
 ghost use Rattle.std.specs.List.Sorted.{IsStrictlySortedBy};
 ghost use Rattle.std.specs.Map.{keys_of};
-ghost use Rattle.lalrpop_collections.specs.lists.Multimaps.{collection_at, PushesAt, SameAt, AreSame, at_itself, IsCollected, values_at};
+ghost use Rattle.lalrpop_collections.specs.lists.Multimaps.{collection_at, PushesAt, SameAt, AreSame, at_itself, IsCollectionOf, values_at};
 
 pub use crate::collections::{Collection, Map, Set};
 use crate::memory::OutOfMemory;
@@ -111,7 +111,7 @@ impl<K: Ord + Drop, C: Collection + Drop> Multimap<K, C> {
         requires can { I.can_next pairs }
         requires finite { IsFinite (I.remaining pairs) }
         ensures { IfOk result (λ map. (given : List (K × C.Item)) × Drains I.next_gives pairs given
-            × ((q : K) → IsCollected C.is_empty C.pushes (values_at K.cmp q given)
+            × ((q : K) → IsCollectionOf C.is_empty C.pushes (values_at K.cmp q given)
             (collection_at K.cmp map q))) }
     {
         let mut map = Multimap::new(alloc);

@@ -17,13 +17,13 @@ pub struct Queue {
 
 impl Model for Queue {
     ghost use Rattle.std.specs.Prelude.{length};
-    ghost use Rattle.lalrpop_collections.specs.lists.Queues.{Waiting, IsMarked};
+    ghost use Rattle.lalrpop_collections.specs.lists.Queues.{Waiting, HasWaitingMarks};
 
     ghost Value = { Waiting };
 
     ghost view = { λ q. record { limit = length q.marks.items; numbers = q.numbers.items } };
 
-    ghost invariant = { λ q. IsMarked q.numbers.items q.marks.items };
+    ghost invariant = { λ q. HasWaitingMarks q.numbers.items q.marks.items };
 }
 
 impl Queue {

@@ -1,3 +1,3 @@
 -- The symbols and dotted productions of a grammar, by number.
 pub mod Numbers
-pub mod RestsGiven
+pub mod SuffixesGiven

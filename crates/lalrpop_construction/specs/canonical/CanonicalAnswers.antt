@@ -5,7 +5,7 @@ use Rattle.lalrpop_base.specs.Words.{Bits, AreCoherent, contents, IfConflicts, A
 use Rattle.lalrpop_construction.specs.construction.EarlyStop.{AreSomeCanonicalStates, StopsAfter}
 use Rattle.lalrpop_construction.specs.construction.Results.{AreStatesOf, AreTables, canonical_of}
 use Rattle.lalrpop_construction.specs.states.Canonical.{AreCanonicalStates, AreOrderedCanonical}
-use Rattle.lalrpop_construction.specs.conflicts.CanonicalConflicts.{FailByCanonicalConflicts}
+use Rattle.lalrpop_construction.specs.conflicts.CanonicalConflicts.{AreConflictsOfFailure}
 use Rattle.lalrpop_base.specs.Words.{AreAllConflicts}
 use Rattle.lalrpop_states.specs.declared.lr1_core.state.BuildError.{BuildError}
 use Rattle.lalrpop_states.specs.declared.lr1_core.state.Conflict.{Conflict}
@@ -41,7 +41,7 @@ pub record HasCanonicalConflicts (stop_after : ℕ) (g : Grammar) (start : Nonte
   pub canonical : stop_after ≡ 0 → AreCanonicalStates (rules_of g) start error.states.items
   pub built : stop_after ≡ 0 → AreStatesOf (canonical_of g start) error.states.items
   pub all : stop_after ≡ 0 → AreAllConflicts g.terminals error.states.items error.conflicts.items
-  pub conflicts : stop_after ≡ 0 → FailByCanonicalConflicts g start error.states.items error.conflicts.items
+  pub conflicts : stop_after ≡ 0 → AreConflictsOfFailure g start error.states.items error.conflicts.items
   -- with early stop, it has the states that were made before it, and their conflicts
   pub stopped : StopsAfter (rules_of g) start stop_after error.states.items error.conflicts.items
 
@@ -57,7 +57,7 @@ pub record LacksTables (g : Grammar) (start : NonterminalString) (states : List 
   pub canonical : AreCanonicalStates (rules_of g) start states
   pub built : AreStatesOf (canonical_of g start) states
   pub all : AreAllConflicts g.terminals states listed
-  pub conflicts : FailByCanonicalConflicts g start states listed
+  pub conflicts : AreConflictsOfFailure g start states listed
 
 -- a number, or the greatest of 64 bits if it is greater
 abbrev pub up_to_greatest : ℕ → ℕ

@@ -16,7 +16,7 @@ use Rattle.lalrpop_grammar.specs.declared.repr.Symbol.{Symbol}
 use Rattle.lalrpop_states.specs.closures.Closure.{dotted_of}
 
 -- the item has a production of the nonterminal, the dot at the start, and the lookahead
-pub record IsBegunWith {L : Type 0} (g : Rules) (name : NonterminalString) (lookahead : L) (i : Dotted L) : Type 0 where
+pub record IsItemAtStart {L : Type 0} (g : Rules) (name : NonterminalString) (lookahead : L) (i : Dotted L) : Type 0 where
   pub start : i.index ≡ 0
   pub among : Contains g.productions i.production
   pub named : i.production.nonterminal ≡ name
@@ -24,8 +24,8 @@ pub record IsBegunWith {L : Type 0} (g : Rules) (name : NonterminalString) (look
 
 -- the list has one item for each production of the nonterminal, and no other item;
 -- the dot is at the start, and the lookahead is the given one
-pub record AreBegunWith {L : Type 0} (g : Rules) (name : NonterminalString) (lookahead : L) (items : List (Dotted L)) : Type 0 where
-  pub each : (i : Dotted L) → Contains items i → IsBegunWith g name lookahead i
+pub record AreItemsAtStart {L : Type 0} (g : Rules) (name : NonterminalString) (lookahead : L) (items : List (Dotted L)) : Type 0 where
+  pub each : (i : Dotted L) → Contains items i → IsItemAtStart g name lookahead i
   pub all : (p : Production) → Contains g.productions p → p.nonterminal ≡ name → Contains (map dotted_of items) (p, 0)
   pub once : AllDiffer (map dotted_of items)
 
@@ -43,13 +43,13 @@ pub record IsGiven {L : Type 0} (meaning : L → Bits) (begins : Rules → List 
 -- the tokens that may follow the nonterminal were added to those of its key;
 -- if the nonterminal has no production, nothing may have been added;
 -- the flag is whether the key is new or has more tokens than before
-pub data IsGivenAt {K L : Type 0} (meaning : L → Bits) (begins : Rules → List Symbol → Token → Type 0) (passes : Rules → List Symbol → Type 0) (g : Rules) (name : NonterminalString) (rest : List Symbol) (lookahead : L) (key : K) (told : Bool) (old new : List (K × Bits)) : Type 0 where
-  given : (tokens : L) → IsGiven meaning begins passes g rest lookahead tokens → IsJoinedAt key (meaning tokens) told old new → AllDiffer (keys_of new) → IsGivenAt meaning begins passes g name rest lookahead key told old new
-  barren : HasNoProduction g name → new ≡ old → told ≡ false → IsGivenAt meaning begins passes g name rest lookahead key told old new
+pub data IsGivenAt {K L : Type 0} (meaning : L → Bits) (begins : Rules → List Symbol → Token → Type 0) (passes : Rules → List Symbol → Type 0) (g : Rules) (name : NonterminalString) (rest : List Symbol) (lookahead : L) (key : K) (changed : Bool) (old new : List (K × Bits)) : Type 0 where
+  given : (tokens : L) → IsGiven meaning begins passes g rest lookahead tokens → IsJoinedAt key (meaning tokens) changed old new → AllDiffer (keys_of new) → IsGivenAt meaning begins passes g name rest lookahead key changed old new
+  barren : HasNoProduction g name → new ≡ old → changed ≡ false → IsGivenAt meaning begins passes g name rest lookahead key changed old new
 
 -- the moves of an item are those of the productions of the nonterminal after its dot, with the dot
 -- at the start and the tokens that may follow the nonterminal in the item
 pub record AreEpsilonMoves {L : Type 0} (meaning : L → Bits) (begins : Rules → List Symbol → Token → Type 0) (passes : Rules → List Symbol → Type 0) (g : Rules) (name : NonterminalString) (rest : List Symbol) (lookahead : L) (moves : List (Dotted L)) : Type 0 where
   pub given : L
-  pub begun : AreBegunWith g name given moves
+  pub begun : AreItemsAtStart g name given moves
   pub is : IsGiven meaning begins passes g rest lookahead given

@@ -43,6 +43,6 @@ pub record AreCanonicalConflictsOf (g : Grammar) (start : NonterminalString) (st
   pub lead : ShiftsLead g.terminals states conflicts
 
 -- the list has exactly the canonical conflicts, state by state, and is not empty
-pub record FailByCanonicalConflicts (g : Grammar) (start : NonterminalString) (states : List (State Bits)) (conflicts : List (Conflict Bits)) : Type 0 where
+pub record AreConflictsOfFailure (g : Grammar) (start : NonterminalString) (states : List (State Bits)) (conflicts : List (Conflict Bits)) : Type 0 where
   pub canonical : AreCanonicalConflictsOf g start states conflicts
   pub some : conflicts ≢ []

@@ -13,7 +13,7 @@ use Rattle.lalrpop_states.specs.declared.lr1_core.state.State.{State}
 use Rattle.lalrpop_grammar.specs.declared.repr.Symbol.{Symbol}
 use Rattle.lalrpop_construction.specs.construction.Results.{Construction}
 use Rattle.lalrpop_numbers.specs.numbers.Numbers.{AreAllNumbered, kernels_by}
-use Rattle.lr1_theory.specs.construction.States.{IsBuiltOfBy, IsLedTo, begun}
+use Rattle.lr1_theory.specs.construction.States.{IsBuiltOfBy, IsLedTo, item_at_start}
 use Rattle.lalrpop_numbers.specs.declared.numbers.numbered.Numbered.{Numbered}
 
 -- there is a state for each kernel that was handed out, and all kernels are of the grammar;
@@ -30,5 +30,5 @@ pub record Building {L : Type 0} (meaning : L → Bits) (C : List (Dotted L) →
 -- the states are built so far from the kernels, which are given by number;
 -- the first kernel is that of the productions of the start symbol
 pub record AreMadeSoFar {L : Type 0} (meaning : L → Bits) (begins : Rules → List Symbol → Token → Type 0) (passes : Rules → List Symbol → Type 0) (c : Construction L) (known : List (Dotted Nil)) (kernels : Kernels (List (Numbered L))) (states : List (State L)) : Type 0 where
-  pub building : Building meaning (IsClosureBy meaning begins passes c.rules) c.rules (map (begun c.lookahead) c.first) (kernels_by known kernels) states
+  pub building : Building meaning (IsClosureBy meaning begins passes c.rules) c.rules (map (item_at_start c.lookahead) c.first) (kernels_by known kernels) states
   pub numbered : AreAllNumbered known kernels.list

@@ -23,7 +23,7 @@ use Rattle.lalrpop_states.specs.closures.Closure.{dotted_of, HasItemToken, IsClo
 use Rattle.lalrpop_construction.specs.states.Lr0.{AreLr0States}
 use Rattle.lalrpop_states.specs.conflicts.AllConflicts.{AreAllConflicts, ListsAll}
 use Rattle.lalrpop_construction.specs.construction.Results.{Settings}
-use Rattle.lr1_theory.specs.construction.States.{begun, IsBuiltOfBy, IsLedTo, AreBuiltBy}
+use Rattle.lr1_theory.specs.construction.States.{item_at_start, IsBuiltOfBy, IsLedTo, AreBuiltBy}
 
 -- there is a state for each of the first kernels, and kernels after them may have none;
 -- which items are a closure is a parameter, so that the definition applies to any lookahead
@@ -87,7 +87,7 @@ pub record AreMadeUntilBy {L : Type 0} (Closes : List (Dotted L) → List (Dotte
 module _ {L : Type 0} (meaning : L → Bits) (begins : Rules → List Symbol → Token → Type 0) (passes : Rules → List Symbol → Type 0) (lists : State L → List TerminalString → List (Conflict L) → Type 0) where
   -- the construction with these settings makes the states and lists the conflicts
   abbrev pub AreMadeFor : Settings L → List (State L) → List (Conflict L) → Type 0
-  AreMadeFor s = AreMadeUntilBy (IsClosureBy meaning begins passes s.construction.rules) lists s.construction.rules.terminals (map (begun s.construction.lookahead) s.construction.first) s.stop_after
+  AreMadeFor s = AreMadeUntilBy (IsClosureBy meaning begins passes s.construction.rules) lists s.construction.rules.terminals (map (item_at_start s.construction.lookahead) s.construction.first) s.stop_after
 
   -- the error has such states and conflicts, of which there are some;
   -- an allocation failure says nothing

@@ -16,8 +16,8 @@ use Rattle.lalrpop_grammar.specs.declared.repr.Symbol.{Symbol}
 use Rattle.lalrpop_grammar.specs.declared.repr.TerminalString.{TerminalString}
 use Rattle.lalrpop_grammar.specs.declared.repr.grammar.Grammar.{Grammar}
 use Rattle.lalrpop_states.specs.closures.Closure.{IsClosureOf, IsClosureBy}
-use Rattle.lalrpop_states.specs.conflicts.AllConflicts.{HaveNoConflict, AreAllConflicts, ListsAll}
-use Rattle.lr1_theory.specs.construction.States.{begun, AreBuiltBy}
+use Rattle.lalrpop_states.specs.conflicts.AllConflicts.{AreAllConflictFree, AreAllConflicts, ListsAll}
+use Rattle.lr1_theory.specs.construction.States.{item_at_start, AreBuiltBy}
 
 -- a construction: the rules of a grammar, the start symbol, its productions, and the lookahead that
 -- follows it
@@ -35,7 +35,7 @@ pub record Settings (L : Type 0) : Type 0 where
 -- the states are built from kernels, of which the first is that of the start symbol;
 -- there is at least one state, and the states are coherent
 pub record AreStatesBy {L : Type 0} (Closes : List (Dotted L) → List (Dotted L) → Type 0) (c : Construction L) (states : List (State L)) : Type 0 where
-  pub built : AreBuiltBy Closes (map (begun c.lookahead) c.first) states
+  pub built : AreBuiltBy Closes (map (item_at_start c.lookahead) c.first) states
   pub some : 0 < length states
   pub coherent : AreCoherent states
 
@@ -46,7 +46,7 @@ AreStatesOf c = AreStatesBy (IsClosureOf c.rules) c
 -- the states are built by the construction, and have no conflict
 pub record AreTables (c : Construction Bits) (states : List (State Bits)) : Type 0 where
   pub made : AreStatesOf c states
-  pub free : HaveNoConflict c.rules.terminals states
+  pub free : AreAllConflictFree c.rules.terminals states
 
 -- the error has states that the construction builds, and all their conflicts; there are some
 abbrev pub FailsBy : Construction Bits → BuildError Bits → Type 0

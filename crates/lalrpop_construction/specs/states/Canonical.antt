@@ -29,18 +29,18 @@ module _ {L : Type 0} (holds : L → Token → Bool) where
   is_with_token p dot t item = (production_eq.ghosts.eq item.production p && (item.index == dot)) && holds item.lookahead t
 
   -- whether one of the items of a state has the dotted production and holds the token
-  abbrev pub tokens_at : Option (State L) → Production → ℕ → Token → Bool
-  tokens_at None p dot t = false
-  tokens_at (Some state) p dot t = list_any (is_with_token p dot t) state.items.vec.items
+  abbrev pub item_has_token : Option (State L) → Production → ℕ → Token → Bool
+  item_has_token None p dot t = false
+  item_has_token (Some state) p dot t = list_any (is_with_token p dot t) state.items.vec.items
 
   -- whether the dotted production holds the token in the state with the number
-  abbrev pub tokens_in : List (State L) → ℕ → Production → ℕ → Token → Bool
-  tokens_in states n = tokens_at (slice_get states n)
+  abbrev pub item_has_token_in : List (State L) → ℕ → Production → ℕ → Token → Bool
+  item_has_token_in states n = item_has_token (slice_get states n)
 
 -- whether the dotted production holds the token in the state with the number, with sets of tokens;
 -- the bit of a terminal is its place in the list of terminals
 abbrev pub tokens_of : List TerminalString → List (State Bits) → ℕ → Production → ℕ → Token → Bool
-tokens_of terminals states = tokens_in (holds_token terminals) states
+tokens_of terminals states = item_has_token_in (holds_token terminals) states
 
 -- ---- the states
 -- the states are canonical, with the tokens of their items;

@@ -2,16 +2,15 @@
 use Rattle.std.specs.Prelude.{◌≡◌, ◌<◌, ◌↔◌, ◌++◌, ℕ, true, List, [], ◌∷◌, length, map, slice_get, Option, Some, None, Contains}
 use Rattle.std.specs.List.{flat_map}
 use Rattle.std.specs.Borrow.{Bor}
-use Rattle.lalrpop_base.specs.Words.{AllDiffer, Bits, Contents, Dotted, contents_of, leads, with_dot, NumbersAscend, state_entries, Entries, HasEntry, reductions_of}
+use Rattle.lalrpop_base.specs.Words.{AllDiffer, Bits, Contents, Dotted, contents_of, leads, with_dot, NumbersAscend, state_entries, StateEdge, Entries, HasEntry, reductions_of}
 use Rattle.lalrpop_base.specs.Words.{seen_reduction}
 use Rattle.lalrpop_states.specs.declared.lookahead.nil.Nil.{Nil}
 use Rattle.lalrpop_grammar.specs.declared.lookahead.token.Token.{Token}
 use Rattle.lalrpop_states.specs.declared.lr1_core.state.State.{State}
 use Rattle.lalrpop_states.specs.declared.lr1_core.state.StateIndex.{StateIndex}
-use Rattle.lalrpop_grammar.specs.declared.repr.NonterminalString.{NonterminalString}
 use Rattle.lalrpop_grammar.specs.declared.repr.Production.{Production}
 use Rattle.lalrpop_grammar.specs.declared.repr.Symbol.{Symbol}
-use Rattle.lalrpop_grammar.specs.declared.repr.TerminalString.{TerminalString}
+use Rattle.lalrpop_grammar.specs.declared.repr.Symbol.TheVariants.{Nonterminal, Terminal}
 use Rattle.lalrpop_construction.specs.states.SamePlaces.{places_in}
 use Rattle.lalrpop_numbers.specs.declared.numbers.numbered.Numbered.{Numbered}
 use Rattle.lalrpop_numbers.specs.declared.numbers.Numbers.{Numbers}
@@ -27,7 +26,6 @@ pub record IsNumberedState (n : Numbers) (place : Contents) (state : NumberedSta
   pub items : (k : ℕ) (i : Dotted Nil) → slice_get n.items.items k ≡ Some i → Contains state.items.items k ↔ Contains place.items (i.production, i.index)
   pub named : (x m : ℕ) → Contains state.edges.items (x, m) → x < length n.symbols.items
   pub edges : (x m : ℕ) (s : Symbol) → slice_get n.symbols.items x ≡ Some s → Contains state.edges.items (x, m) ↔ (leads place s ≡ Some m)
-  pub ascend : EdgesAscend state.edges.items
 
 -- the numbers are those of the dotted productions of the items, one by one
 pub record AreItemsAt {L : Type 0} (known : List (Dotted Nil)) (numbers : List ℕ) (items : List (Dotted L)) : Type 0 where
@@ -35,8 +33,8 @@ pub record AreItemsAt {L : Type 0} (known : List (Dotted Nil)) (numbers : List �
   pub each : (j k : ℕ) (item : Dotted L) → slice_get items j ≡ Some item → slice_get numbers j ≡ Some k → slice_get known k ≡ Some (with_dot item.production item.index)
 
 -- the number of an item that is given by number
-abbrev pub number_in : {L : Type 0} → Numbered L → ℕ
-number_in e = e.number
+abbrev pub item_number : {L : Type 0} → Numbered L → ℕ
+item_number e = e.number
 
 -- a list with the number of the item if it is finished, that is, if no symbol is after its dot
 abbrev pub finished_only : Option (Option ℕ) → ℕ → List ℕ
@@ -93,8 +91,8 @@ listed_items None = []
 listed_items (Some state) = state.items.items
 
 -- the numbers of the items of the state with the number, or none if there is no such state
-abbrev pub items_at : List NumberedState → ℕ → List ℕ
-items_at states s = listed_items (slice_get states s)
+abbrev pub item_numbers_at : List NumberedState → ℕ → List ℕ
+item_numbers_at states s = listed_items (slice_get states s)
 
 -- ---- making them
 -- one of the items has the dotted production
@@ -120,13 +118,19 @@ IsKeyAt {V} list place x = (e : ℕ × V) × (slice_get list place ≡ Some e) �
 abbrev pub HasKeys : {V : Type 0} → List (ℕ × ℕ) → List (ℕ × V) → Type 0
 HasKeys list others = (k : ℕ) (e : ℕ × ℕ) → slice_get list k ≡ Some e → IsKeyAt others k e.0
 
--- if the old list had the transitions of some entries, the new list has those of these gotos too
-abbrev pub AddsGotos : List Symbol → List (ℕ × ℕ) → List (ℕ × ℕ) → List (NonterminalString × StateIndex) → Type 0
-AddsGotos symbols old new gotos = AllDiffer symbols → (entries : Entries) → AreListedBy symbols old entries → AreListedBy symbols new (record { shifts = entries.shifts; gotos = entries.gotos ++ gotos })
+-- the entries with an edge more, after the others of its kind
+abbrev pub with_edge : Entries → StateEdge → Entries
+with_edge entries (Nonterminal a, target) = record { shifts = entries.shifts; gotos = entries.gotos ++ (a, target) ∷ [] }
+with_edge entries (Terminal t, target) = record { shifts = entries.shifts ++ (t, target) ∷ []; gotos = entries.gotos }
 
--- if the old list had the transitions of some entries, the new list has those of these shifts too
-abbrev pub AddsShifts : List Symbol → List (ℕ × ℕ) → List (ℕ × ℕ) → List (TerminalString × StateIndex) → Type 0
-AddsShifts symbols old new shifts = AllDiffer symbols → (entries : Entries) → AreListedBy symbols old entries → AreListedBy symbols new (record { shifts = entries.shifts ++ shifts; gotos = entries.gotos })
+-- the entries with more edges
+abbrev pub with_edges : Entries → List StateEdge → Entries
+with_edges entries [] = entries
+with_edges entries (e ∷ es) = with_edges (with_edge entries e) es
+
+-- if the old list had the transitions of some entries, the new list has those of these edges too
+abbrev pub AddsEdges : List Symbol → List (ℕ × ℕ) → List (ℕ × ℕ) → List StateEdge → Type 0
+AddsEdges symbols old new edges = AllDiffer symbols → (entries : Entries) → AreListedBy symbols old entries → AreListedBy symbols new (with_edges entries edges)
 
 -- the numbers are those of the items and transitions of the state, which reduces by its finished
 -- items

@@ -5,8 +5,8 @@
 ghost use Rattle.std.specs.Prelude.{◌≡◌, ◌<◌, ◌≤◌, ◌∷◌, [], ℕ, IfOk, OnOk, IfSome, IfNone, Contains, length, map};
 ghost use Rattle.std.specs.Map.{keys_of};
 ghost use Rattle.lalrpop_base.specs.Words.{Bits, AreNumbered, AreNumbers, item_by, items_by};
-ghost use Rattle.lalrpop_construction.specs.closures.Sharing.{IsSharing, Shares, fronts_in, numbered_of, parts_in, unfolded};
-ghost use Rattle.lalrpop_construction.specs.closures.Sharing.{with_tokens};
+ghost use Rattle.lalrpop_construction.specs.closures.Propagation.{IsPropagation, Propagates, expansions_in, numbered_of, parts_in, unfolded};
+ghost use Rattle.lalrpop_construction.specs.closures.Propagation.{with_tokens};
 ghost use Rattle.lalrpop_base.specs.Words.{AreItemsBy, IsClosureBy, meant, readings};
 ghost use Rattle.lalrpop_collections.specs.lists.Entries.{GathersMore};
 
@@ -24,7 +24,7 @@ use std::alloc::Global;
 
 // Adds the tokens that an item gives to the nonterminal after its dot. The nonterminal goes into
 // the queue if it is new or has more tokens than before.
-fn share<'grammar, L: LookaheadBuild>(
+fn propagate<'grammar, L: LookaheadBuild>(
     alloc: Global,
     lr: &Lr<'grammar, L>,
     numbers: &Numbers<'grammar>,
@@ -37,7 +37,7 @@ fn share<'grammar, L: LookaheadBuild>(
     requires known { number < length numbers.now.items.items }
     requires limit { length numbers.now.symbols.items ≤ queue.old.limit }
     ensures limit { queue.new.limit ≡ queue.old.limit }
-    ensures shares { OnOk result (Shares L.begins L.passes lr.now.construction.rules numbers.now
+    ensures shares { OnOk result (Propagates L.begins L.passes lr.now.construction.rules numbers.now
         (item_by numbers.now.items.items (record
         { number = number; lookahead = L.meaning tokens.now }) ∷ [])
         (readings L.meaning shared.old) (readings L.meaning shared.new)
@@ -46,7 +46,7 @@ fn share<'grammar, L: LookaheadBuild>(
     let Some(symbol) = numbers.behind[number] else {
         return Ok(());
     };
-    let Some(rest) = &numbers.rests[number] else {
+    let Some(suffix) = &numbers.suffixes[number] else {
         return Ok(());
     };
     let Some((next, remainder)) = numbers.items[number].shift_symbol() else {
@@ -56,14 +56,14 @@ fn share<'grammar, L: LookaheadBuild>(
         return Ok(());
     };
     let _grammar = lr.grammar();
-    if L::give(alloc, lr, name, remainder, rest, tokens, symbol, shared)? {
+    if L::give(alloc, lr, name, remainder, suffix, tokens, symbol, shared)? {
         queue.add(symbol)?;
     }
     Ok(())
 }
 
 // Adds the tokens that the items of a kernel give.
-fn share_kernel<'grammar, L: LookaheadBuild>(
+fn propagate_kernel<'grammar, L: LookaheadBuild>(
     alloc: Global,
     lr: &Lr<'grammar, L>,
     numbers: &Numbers<'grammar>,
@@ -75,13 +75,13 @@ fn share_kernel<'grammar, L: LookaheadBuild>(
     requires known { AreNumbered numbers.now.items.items kernel.now }
     requires limit { length numbers.now.symbols.items ≤ queue.old.limit }
     ensures limit { queue.new.limit ≡ queue.old.limit }
-    ensures shares { OnOk result (Shares L.begins L.passes lr.now.construction.rules numbers.now
+    ensures shares { OnOk result (Propagates L.begins L.passes lr.now.construction.rules numbers.now
         (map (meant L.meaning) (items_by numbers.now.items.items kernel.now))
         (readings L.meaning shared.old) (readings L.meaning shared.new)
         queue.old.numbers queue.new.numbers) }
 {
     for item in kernel {
-        share(
+        propagate(
             alloc,
             lr,
             numbers,
@@ -94,36 +94,36 @@ fn share_kernel<'grammar, L: LookaheadBuild>(
     Ok(())
 }
 
-// Adds the tokens that the productions of a nonterminal give. `fronts` has the numbers of these
+// Adds the tokens that the productions of a nonterminal give. `expansions` has the numbers of these
 // productions with the dot at the start, and `tokens` are those of the nonterminal.
-fn share_fronts<'grammar, L: LookaheadBuild>(
+fn propagate_expansions<'grammar, L: LookaheadBuild>(
     alloc: Global,
     lr: &Lr<'grammar, L>,
     numbers: &Numbers<'grammar>,
-    fronts: &[usize],
+    expansions: &[usize],
     tokens: &L,
     shared: &mut SparseMap<L>,
     queue: &mut Queue,
 ) -> Result<(), OutOfMemory>
     requires numbers { AreNumbers lr.now.construction.rules numbers.now }
     requires known { AreNumbered numbers.now.items.items
-        (fronts_in (L.meaning tokens.now) fronts.now) }
+        (expansions_in (L.meaning tokens.now) expansions.now) }
     requires limit { length numbers.now.symbols.items ≤ queue.old.limit }
     ensures limit { queue.new.limit ≡ queue.old.limit }
-    ensures shares { OnOk result (Shares L.begins L.passes lr.now.construction.rules numbers.now
-        (items_by numbers.now.items.items (fronts_in (L.meaning tokens.now) fronts.now))
+    ensures shares { OnOk result (Propagates L.begins L.passes lr.now.construction.rules numbers.now
+        (items_by numbers.now.items.items (expansions_in (L.meaning tokens.now) expansions.now))
         (readings L.meaning shared.old) (readings L.meaning shared.new)
         queue.old.numbers queue.new.numbers) }
 {
-    for number in fronts {
-        share(alloc, lr, numbers, *number, tokens, shared, queue)?;
+    for number in expansions {
+        propagate(alloc, lr, numbers, *number, tokens, shared, queue)?;
     }
     Ok(())
 }
 
 // A copy of the tokens of a nonterminal, if it has an entry.
 #[tactic(auto, using(lalrpop_collections::proofs::theory::lists::Members::contains_map))]
-fn shared_tokens<L: Lookahead>(
+fn nonterminal_tokens<L: Lookahead>(
     alloc: Global,
     shared: &SparseMap<L>,
     symbol: usize,
@@ -140,7 +140,7 @@ fn shared_tokens<L: Lookahead>(
 }
 
 // Fills `shared` with the tokens that each nonterminal of the closure of a kernel gets.
-fn share_all<'grammar, L: LookaheadBuild>(
+fn propagate_all<'grammar, L: LookaheadBuild>(
     alloc: Global,
     lr: &Lr<'grammar, L>,
     numbers: &Numbers<'grammar>,
@@ -152,17 +152,17 @@ fn share_all<'grammar, L: LookaheadBuild>(
     requires known { AreNumbered numbers.now.items.items kernel.now }
     requires kernel { AreItemsBy L.meaning lr.now.construction.rules
         (items_by numbers.now.items.items kernel.now) }
-    ensures { OnOk result (IsSharing L.begins L.passes lr.now.construction.rules
+    ensures { OnOk result (IsPropagation L.begins L.passes lr.now.construction.rules
         numbers.now (map (meant L.meaning) (items_by numbers.now.items.items kernel.now))
         (readings L.meaning shared.new) []) }
 {
     shared.clear();
     queue.restart(numbers.symbols.len())?;
-    share_kernel(alloc, lr, numbers, kernel, shared, queue)?;
+    propagate_kernel(alloc, lr, numbers, kernel, shared, queue)?;
     while let Some(symbol) = queue.take() {
-        if let Some(tokens) = shared_tokens(alloc, shared, symbol)? {
-            let fronts = &numbers.expansions[symbol];
-            share_fronts(alloc, lr, numbers, fronts, &tokens, shared, queue)?;
+        if let Some(tokens) = nonterminal_tokens(alloc, shared, symbol)? {
+            let expansions = &numbers.expansions[symbol];
+            propagate_expansions(alloc, lr, numbers, expansions, &tokens, shared, queue)?;
         }
     }
     Ok(())
@@ -185,16 +185,16 @@ fn gather_kernel<L: Lookahead>(
 
 // Adds the productions of a nonterminal to the table, with the dot at the start and the tokens. The
 // last production gets the tokens themselves, and the others get copies.
-fn gather_fronts<L: Lookahead>(
+fn gather_expansions<L: Lookahead>(
     alloc: Global,
-    fronts: &[usize],
+    expansions: &[usize],
     tokens: L,
     table: &mut SparseMap<L>,
 ) -> Result<(), OutOfMemory>
-    ensures { OnOk result (GathersMore (with_tokens (L.meaning tokens) fronts.now)
+    ensures { OnOk result (GathersMore (with_tokens (L.meaning tokens) expansions.now)
         (readings L.meaning table.old) (readings L.meaning table.new)) }
 {
-    let Some((last, others)) = fronts.split_last() else {
+    let Some((last, others)) = expansions.split_last() else {
         return Ok(());
     };
     for number in others {
@@ -205,7 +205,7 @@ fn gather_fronts<L: Lookahead>(
 }
 
 // Adds the productions of all nonterminals of a closure to the table.
-fn gather_shared<'grammar, L: Lookahead>(
+fn gather_nonterminals<'grammar, L: Lookahead>(
     alloc: Global,
     numbers: &Numbers<'grammar>,
     shared: Vec<(usize, L)>,
@@ -219,7 +219,7 @@ fn gather_shared<'grammar, L: Lookahead>(
         (readings L.meaning table.old) (readings L.meaning table.new)) }
 {
     for (symbol, tokens) in shared {
-        gather_fronts(alloc, &numbers.expansions[symbol], tokens, table)?;
+        gather_expansions(alloc, &numbers.expansions[symbol], tokens, table)?;
     }
     Ok(())
 }
@@ -256,7 +256,7 @@ pub fn closure<'grammar, L: LookaheadBuild>(
         lr.now.construction.rules (items_by numbers.now.items.items kernel.now)
         (items_by numbers.now.items.items items.items)) }
 {
-    share_all(
+    propagate_all(
         alloc,
         lr,
         numbers,
@@ -267,7 +267,7 @@ pub fn closure<'grammar, L: LookaheadBuild>(
     work.items.clear();
     gather_kernel(alloc, kernel, &mut work.items)?;
     let shared = work.shared.take_all(alloc)?;
-    gather_shared(alloc, numbers, shared, &mut work.items)?;
+    gather_nonterminals(alloc, numbers, shared, &mut work.items)?;
     let entries = work.items.take_rising(alloc)?;
     items_of(alloc, entries)
 }

@@ -9,7 +9,7 @@ use lalrpop_base::lookahead::nil::Nil;
 use lalrpop_base::lookahead::token_set::TokenSet;
 use lalrpop_base::lr1_core::item::Item;
 use lalrpop_base::memory::OutOfMemory;
-use lalrpop_base::numbers::rests::Rest;
+use lalrpop_base::numbers::suffixes::Suffix;
 use lalrpop_base::repr::{NonterminalString, Symbol};
 use std::alloc::Global;
 
@@ -25,7 +25,7 @@ impl LookaheadBuild for Nil {
         _remainder: &[Symbol],
         lookahead: &Nil,
     ) -> Result<Vec<Item<'grammar, Nil>>, OutOfMemory> {
-        lr.begun_items(alloc, nonterminal, lookahead)
+        lr.items_at_start(alloc, nonterminal, lookahead)
     }
 
     fn give<'grammar>(
@@ -33,7 +33,7 @@ impl LookaheadBuild for Nil {
         _lr: &Lr<'grammar, Nil>,
         _nonterminal: &NonterminalString,
         _remainder: &[Symbol],
-        _rest: &Rest,
+        _suffix: &Suffix,
         _lookahead: &Nil,
         number: usize,
         shared: &mut SparseMap<Nil>,
@@ -45,7 +45,7 @@ impl LookaheadBuild for Nil {
 impl LookaheadBuild for TokenSet {
     ghost begins = { Begins };
 
-    ghost passes = { λ g rest. IsNullable g.productions rest };
+    ghost passes = { λ g suffix. IsNullable g.productions suffix };
 
     fn epsilon_moves<'grammar>(
         alloc: Global,
@@ -56,7 +56,7 @@ impl LookaheadBuild for TokenSet {
     ) -> Result<Vec<Item<'grammar, TokenSet>>, OutOfMemory> {
         let _grammar = lr.grammar();
         let given = lr.first_sets().first1(alloc, remainder, lookahead)?;
-        lr.begun_items(alloc, nonterminal, &given)
+        lr.items_at_start(alloc, nonterminal, &given)
     }
 
     fn give<'grammar>(
@@ -64,17 +64,17 @@ impl LookaheadBuild for TokenSet {
         lr: &Lr<'grammar, TokenSet>,
         _nonterminal: &NonterminalString,
         _remainder: &[Symbol],
-        rest: &Rest,
+        suffix: &Suffix,
         lookahead: &TokenSet,
         number: usize,
         shared: &mut SparseMap<TokenSet>,
     ) -> Result<bool, OutOfMemory> {
         let _grammar = lr.grammar();
-        if !rest.nullable {
-            return shared.join_copy(alloc, number, &rest.first);
+        if !suffix.nullable {
+            return shared.join_copy(alloc, number, &suffix.first);
         }
         let passed = shared.join_copy(alloc, number, lookahead)?;
-        let begun = shared.join_copy(alloc, number, &rest.first)?;
-        Ok(passed | begun)
+        let generated = shared.join_copy(alloc, number, &suffix.first)?;
+        Ok(passed | generated)
     }
 }

@@ -1,6 +1,6 @@
 //! The lookaheads that a closure gives to the items that it adds.
 ghost use Rattle.std.specs.Prelude.{IfOk, List};
-ghost use Rattle.lalrpop_base.specs.Words.{HasKnownTerminals, Rules, IsRest, readings};
+ghost use Rattle.lalrpop_base.specs.Words.{HasKnownTerminals, Rules, IsSuffix, readings};
 ghost use Rattle.lalrpop_construction.specs.closures.EpsilonMoves.{AreEpsilonMoves};
 ghost use Rattle.lalrpop_grammar.specs.declared.lookahead.token.Token.{Token};
 ghost use Rattle.lalrpop_grammar.specs.declared.repr.Symbol.{Symbol};
@@ -11,7 +11,7 @@ use lalrpop_base::collections::sparse_map::SparseMap;
 use lalrpop_base::lookahead::Lookahead;
 use lalrpop_base::lr1_core::item::Item;
 use lalrpop_base::memory::OutOfMemory;
-use lalrpop_base::numbers::rests::Rest;
+use lalrpop_base::numbers::suffixes::Suffix;
 use lalrpop_base::repr::{NonterminalString, Symbol};
 use std::alloc::Global;
 
@@ -43,22 +43,22 @@ pub trait LookaheadBuild: Lookahead {
     /// `shared`. Returns whether the number is new or has more tokens than before; `OutOfMemory` if
     /// an allocation fails. A nonterminal without productions may get nothing.
     ///
-    /// The default body calls `epsilon_moves`. A lookahead may replace it by one that uses `_rest`:
-    /// FIRST of the remainder, and whether the remainder is nullable.
+    /// The default body calls `epsilon_moves`. A lookahead may replace it by one that uses
+    /// `_suffix`: FIRST of the remainder, and whether the remainder is nullable.
     fn give<'grammar>(
         alloc: Global,
         lr: &Lr<'grammar, Self>,
         nonterminal: &NonterminalString,
         remainder: &[Symbol],
-        _rest: &Rest,
+        _suffix: &Suffix,
         lookahead: &Self,
         number: usize,
         shared: &mut SparseMap<Self>,
     ) -> Result<bool, OutOfMemory>
         requires known { HasKnownTerminals lr.now.construction.rules.terminals remainder.now }
-        requires rest { IsRest lr.now.construction.rules remainder.now _rest.now }
-        ensures given { IfOk result (λ told. IsGivenAt Self.meaning begins passes
-            lr.now.construction.rules nonterminal.now remainder.now lookahead.now number told
+        requires suffix { IsSuffix lr.now.construction.rules remainder.now _suffix.now }
+        ensures given { IfOk result (λ changed. IsGivenAt Self.meaning begins passes
+            lr.now.construction.rules nonterminal.now remainder.now lookahead.now number changed
             (readings Self.meaning shared.old) (readings Self.meaning shared.new)) }
     {
         let mut moves = Self::epsilon_moves(alloc, lr, nonterminal, remainder, lookahead)?;

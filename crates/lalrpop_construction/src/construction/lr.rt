@@ -3,8 +3,8 @@ ghost use Rattle.std.specs.Prelude.{◌≡◌, IfOk, IfErr, MatchResult, map};
 ghost use Rattle.lalrpop_base.specs.Words.{FitsTokens, IsWellFormed, rules_of, productions_of, AreNumbered, AreNumbers, items_by};
 ghost use Rattle.lalrpop_construction.specs.construction.EarlyStop.{FailsAfterLr0, StopsFor};
 ghost use Rattle.lalrpop_construction.specs.construction.Results.{AreTables, AreTablesFor, FailsBy, FailsFor, canonical_of};
-ghost use Rattle.lalrpop_base.specs.Words.{begun, AreItemsBy};
-ghost use Rattle.lalrpop_construction.specs.closures.EpsilonMoves.{AreBegunWith};
+ghost use Rattle.lalrpop_base.specs.Words.{item_at_start, AreItemsBy};
+ghost use Rattle.lalrpop_construction.specs.closures.EpsilonMoves.{AreItemsAtStart};
 ghost use Rattle.lalrpop_construction.specs.states.Lr0.{AreLr0States, HasLr0States};
 ghost use Rattle.lalrpop_construction.specs.states.Lr0.{HaveNoNilConflict, ListsNilConflicts};
 ghost use Rattle.lalrpop_grammar.specs.declared.repr.NonterminalString.{NonterminalString as Start};
@@ -164,17 +164,17 @@ impl<'grammar, L: Lookahead> Lr<'grammar, L> {
 
     /// The productions of a nonterminal, with the dot at the start and the lookahead.
     /// `OutOfMemory` if an allocation fails.
-    pub fn begun_items(
+    pub fn items_at_start(
         &self,
         alloc: Global,
         nonterminal: &NonterminalString,
         lookahead: &L,
     ) -> Result<Vec<Item<'grammar, L>>, OutOfMemory>
-        ensures { IfOk result (λ items. AreBegunWith self.now.construction.rules nonterminal.now
+        ensures { IfOk result (λ items. AreItemsAtStart self.now.construction.rules nonterminal.now
             lookahead.now items.items) }
     {
         let grammar = self.grammar;
-        begun_items(alloc, grammar, nonterminal, lookahead)
+        items_at_start(alloc, grammar, nonterminal, lookahead)
     }
 
     /// The kernel of the first state: the productions of the start symbol, with the dot at the
@@ -187,7 +187,7 @@ impl<'grammar, L: Lookahead> Lr<'grammar, L> {
         requires { AreNumbers self.now.construction.rules numbers.now }
         ensures known { IfOk result (AreNumbered numbers.now.items.items) }
         ensures kernel { IfOk result (λ kernel. items_by numbers.now.items.items kernel ≡ map
-            (begun self.now.construction.lookahead) self.now.construction.first) }
+            (item_at_start self.now.construction.lookahead) self.now.construction.first) }
         ensures items { IfOk result (λ kernel. AreItemsBy L.meaning self.now.construction.rules
             (items_by numbers.now.items.items kernel)) }
     {
@@ -272,13 +272,13 @@ impl<'grammar> Lr<'grammar, Nil> {
 }
 
 // The productions of a nonterminal, with the dot at the start and the lookahead.
-fn begun_items<'grammar, L: Lookahead>(
+fn items_at_start<'grammar, L: Lookahead>(
     alloc: Global,
     grammar: &'grammar Grammar,
     nonterminal: &NonterminalString,
     lookahead: &L,
 ) -> Result<Vec<Item<'grammar, L>>, OutOfMemory>
-    ensures { IfOk result (λ items. items.items ≡ map (begun lookahead.now)
+    ensures { IfOk result (λ items. items.items ≡ map (item_at_start lookahead.now)
         (productions_of grammar.now nonterminal.now)) }
 {
     let mut items = Vec::new(alloc);
@@ -304,7 +304,7 @@ fn numbered_starts<'grammar, L: Lookahead>(
     requires { AreNumbers (rules_of grammar.now) numbers.now }
     ensures known { IfOk result (AreNumbered numbers.now.items.items) }
     ensures items { IfOk result (λ items. items_by numbers.now.items.items items ≡ map
-        (begun lookahead.now) (productions_of grammar.now nonterminal.now)) }
+        (item_at_start lookahead.now) (productions_of grammar.now nonterminal.now)) }
 {
     let mut items = Sequence::new(alloc);
     for production in grammar.productions_for(nonterminal) {

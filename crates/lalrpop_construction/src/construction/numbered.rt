@@ -1,7 +1,7 @@
 //! Kernels of states, whose items are given by number.
 ghost use Rattle.std.specs.Prelude.{◌≡◌, ◌+◌, ◌<◌, [], length, map, slice_get, Some, IfOk, OnOk, OnErr, IfSome, IsNone};
 ghost use Rattle.lalrpop_base.specs.Words.{AddsOnce, AllDiffer};
-ghost use Rattle.lalrpop_construction.specs.states.NumberedStates.{number_in};
+ghost use Rattle.lalrpop_construction.specs.states.NumberedStates.{item_number};
 
 use indexmap::IndexSet;
 use lalrpop_base::lookahead::Lookahead;
@@ -18,7 +18,7 @@ pub fn list_numbers<L: Lookahead>(
     list: &[Numbered<L>],
     numbers: &mut Vec<usize>,
 ) -> Result<(), OutOfMemory>
-    ensures { OnOk result (numbers.new.items ≡ map number_in list.now) }
+    ensures { OnOk result (numbers.new.items ≡ map item_number list.now) }
 {
     numbers.clear();
     for item in list {

@@ -2,7 +2,7 @@
 //! the conflicts.
 ghost use Rattle.std.specs.Prelude.{◌≡◌, ◌<◌, [], IfOk, OnOk, IfErr, ◌++◌, List, length};
 ghost use Rattle.std.specs.List.{flat_map};
-ghost use Rattle.lalrpop_base.specs.Words.{state_conflicts, FailWith, HaveNoConflict};
+ghost use Rattle.lalrpop_base.specs.Words.{state_conflicts, FailWith, AreAllConflictFree};
 ghost use Rattle.lalrpop_states.specs.declared.lr1_core.state.Conflict.{Conflict};
 ghost use Rattle.lalrpop_construction.specs.canonical.CanonicalAnswers.{up_to_greatest, MatchTablesOrCount};
 
@@ -67,7 +67,7 @@ pub fn tables_or_count<'grammar>(
     terminals: &TerminalSet,
 ) -> TablesOrCount<'grammar>
     ensures { MatchTablesOrCount
-        (λ tables. (tables ≡ states.entry.items) × HaveNoConflict terminals.now tables)
+        (λ tables. (tables ≡ states.entry.items) × AreAllConflictFree terminals.now tables)
         (λ n. (0 < n) × (n ≡ up_to_greatest
         (length (flat_map (state_conflicts terminals.now) states.entry.items)))) result }
 {

@@ -53,7 +53,7 @@ impl Attempt for BegunItems<'_> {
         let begun = if self.is_moved {
             LookaheadBuild::epsilon_moves(alloc, &self.lr, &self.name, &[], &self.tokens)
         } else {
-            self.lr.begun_items(alloc, &self.name, &self.tokens)
+            self.lr.items_at_start(alloc, &self.name, &self.tokens)
         };
         match begun {
             Ok(items) => Some(are_begun(&items, &self.tokens)),
@@ -74,7 +74,7 @@ fn construction_of<'g>(alloc: Global, grammar: &'g Grammar) -> Result<Lr<'g, Tok
 }
 
 #[test]
-fn begun_items(rt: HostRuntime) -> Result<(), Fail> {
+fn items_at_start(rt: HostRuntime) -> Result<(), Fail> {
     let alloc = rt.alloc();
     let grammar = grammar(alloc, TWO)?;
     for is_moved in [false, true] {

@@ -85,7 +85,7 @@ impl LookaheadBuild for Word {
         let word = word_of(alloc, &first, &grammar.terminals)?;
         let nullable = first.contains_eof(&grammar.terminals);
         let given = followed(word, nullable, *lookahead);
-        lr.begun_items(alloc, nonterminal, &given)
+        lr.items_at_start(alloc, nonterminal, &given)
     }
 }
 

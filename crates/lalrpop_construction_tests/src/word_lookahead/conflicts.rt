@@ -1,7 +1,7 @@
 //! The conflicts of a state whose lookaheads are words.
 ghost use Rattle.std.specs.Prelude.{◌≡◌, ◌++◌, ◌∷◌, [], OnOk, IfOk};
 ghost use Rattle.std.specs.List.{flat_map};
-ghost use Rattle.lalrpop_construction_tests.specs.WordConflicts.{word_conflicts, shift_conflicts, conflicts_on_place, conflicts_on_bit, later_conflicts, reduce_conflicts};
+ghost use Rattle.lalrpop_construction_tests.specs.WordConflicts.{word_conflicts, word_shift_conflicts, word_conflicts_on_place, word_conflicts_on_bit, word_later_conflicts, word_reduce_conflicts};
 
 use super::Word;
 use lalrpop_base::lr1_core::state::{Action, Conflict, State, StateIndex};
@@ -43,7 +43,7 @@ fn add_shift_conflicts<'grammar>(
     terminals: &TerminalSet,
 ) -> Result<(), OutOfMemory>
     ensures { OnOk result (list.new.items ≡ list.old.items ++ flat_map
-        (shift_conflicts terminals.now state reductions.now) shifts.now.entries) }
+        (word_shift_conflicts terminals.now state reductions.now) shifts.now.entries) }
 {
     for (terminal, target) in shifts.iter() {
         let bit = terminals.bit(terminal);
@@ -63,8 +63,8 @@ fn add_conflicts_on<'grammar>(
     reductions: &[(Word, &'grammar Production)],
     bit: Option<usize>,
 ) -> Result<(), OutOfMemory>
-    ensures { OnOk result (list.new.items ≡ list.old.items ++ conflicts_on_place state terminal.now
-        target reductions.now bit) }
+    ensures { OnOk result (list.new.items ≡
+        list.old.items ++ word_conflicts_on_place state terminal.now target reductions.now bit) }
 {
     let Some(bit) = bit else {
         return Ok(());
@@ -85,7 +85,8 @@ fn add_conflict_on<'grammar>(
     reduction: &(Word, &'grammar Production),
     bit: usize,
 ) -> Result<(), OutOfMemory>
-    ensures { OnOk result (list.new.items ≡ list.old.items ++ conflicts_on_bit state terminal.now
+    ensures { OnOk result (list.new.items ≡
+        list.old.items ++ word_conflicts_on_bit state terminal.now
         target (reduction.now ∷ []) bit) }
 {
     if !reduction.0.holds(bit) {
@@ -107,7 +108,7 @@ fn add_reduce_conflicts<'grammar>(
     reductions: &[(Word, &'grammar Production)],
 ) -> Result<(), OutOfMemory>
     ensures { OnOk result
-        (list.new.items ≡ list.old.items ++ reduce_conflicts state reductions.now) }
+        (list.new.items ≡ list.old.items ++ word_reduce_conflicts state reductions.now) }
 {
     for place in 0..reductions.len() {
         let later = &reductions[place + 1..];
@@ -124,7 +125,7 @@ fn add_later_conflicts<'grammar>(
     later: &[(Word, &'grammar Production)],
 ) -> Result<(), OutOfMemory>
     ensures { OnOk result
-        (list.new.items ≡ list.old.items ++ later_conflicts state reduction.now later.now) }
+        (list.new.items ≡ list.old.items ++ word_later_conflicts state reduction.now later.now) }
 {
     for other in later {
         add_conflict_of(list, state, reduction, other)?;
@@ -140,7 +141,8 @@ fn add_conflict_of<'grammar>(
     second: &(Word, &'grammar Production),
 ) -> Result<(), OutOfMemory>
     ensures { OnOk result
-        (list.new.items ≡ list.old.items ++ later_conflicts state first.now (second.now ∷ [])) }
+        (list.new.items ≡ list.old.items ++ word_later_conflicts state first.now
+        (second.now ∷ [])) }
 {
     let shared = first.0.intersection(second.0);
     if shared.bits == 0 {

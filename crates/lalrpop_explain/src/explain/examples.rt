@@ -4,7 +4,7 @@ ghost use Rattle.lalrpop_explain.specs.explained.FirstExamples.{AreExamplesOf, A
 ghost use Rattle.lalrpop_explain.specs.explained.OwnErrors.{AreOwnStates};
 ghost use Rattle.lalrpop_traces.specs.Words.{AreKnownEdges, to_come};
 
-use super::ground::Ground;
+use super::context::Context;
 use lalrpop_base::lr1_core::item::{Item, Lr1Item};
 use lalrpop_base::lr1_core::state::StateIndex;
 use lalrpop_base::memory::OutOfMemory;
@@ -14,16 +14,16 @@ use std::alloc::Global;
 /// The first examples of an item of a state that shifts, at most `most`.
 pub(crate) fn shift_examples<'grammar>(
     alloc: Global,
-    ground: &Ground<'_, 'grammar>,
+    context: &Context<'_, 'grammar>,
     state: StateIndex,
     item: &Lr1Item<'grammar>,
     most: usize,
 ) -> Result<Vec<Example>, OutOfMemory>
-    ensures { IfOk result (λ examples. AreShiftExamples ground.now.first_sets.now
-        ground.now.states.now most state item.now examples.items) }
+    ensures { IfOk result (λ examples. AreShiftExamples context.now.first_sets.now
+        context.now.states.now most state item.now examples.items) }
 {
-    let begun = Item::lr0(item.production, item.index);
-    let graph = ground.tracer.backtrace_shift(alloc, state, begun)?;
+    let lr0_item = Item::lr0(item.production, item.index);
+    let graph = context.tracer.backtrace_shift(alloc, state, lr0_item)?;
     let walk = graph.lr0_examples(alloc, Item::lr0(item.production, item.index))?;
     let examples = first_examples(alloc, walk, most)?;
     Ok(examples)
@@ -33,19 +33,19 @@ pub(crate) fn shift_examples<'grammar>(
 /// the item, at most `most`.
 pub(crate) fn reduce_examples<'grammar>(
     alloc: Global,
-    ground: &Ground<'_, 'grammar>,
+    context: &Context<'_, 'grammar>,
     state: StateIndex,
     item: &Lr1Item<'grammar>,
     most: usize,
 ) -> Result<Vec<Example>, OutOfMemory>
-    requires states { AreOwnStates ground.now.first_sets.now ground.now.states.now }
-    requires item { Contains ground.now.first_sets.now.productions item.now.production }
-    ensures { IfOk result (λ examples. AreReduceExamples ground.now.first_sets.now
-        ground.now.states.now most state item.now examples.items) }
+    requires states { AreOwnStates context.now.first_sets.now context.now.states.now }
+    requires item { Contains context.now.first_sets.now.productions item.now.production }
+    ensures { IfOk result (λ examples. AreReduceExamples context.now.first_sets.now
+        context.now.states.now most state item.now examples.items) }
 {
     let finished = Item::lr0(item.production, item.index);
-    let graph = ground.tracer.backtrace_reduce(alloc, state, finished)?;
-    let walk = graph.lr1_examples(alloc, ground.first_sets, item)?;
+    let graph = context.tracer.backtrace_reduce(alloc, state, finished)?;
+    let walk = graph.lr1_examples(alloc, context.first_sets, item)?;
     let examples = first_meeting(alloc, walk, most)?;
     Ok(examples)
 }

@@ -4,8 +4,8 @@ ghost use Rattle.lalrpop_explain.specs.explained.ExplainedConflicts.{AreExplaine
 ghost use Rattle.lalrpop_explain.specs.explained.OwnErrors.{AreOwnStates, IsOwnConflict};
 ghost use Rattle.lalrpop_lanes.specs.Words.{ReducesOwn};
 
+use super::context::Context;
 use super::examples::reduce_examples;
-use super::ground::Ground;
 use super::items::explained_shifts;
 use super::{ExplainedConflict, ExplainedItem};
 use lalrpop_base::first::FirstSets;
@@ -19,7 +19,7 @@ use std::alloc::Global;
 /// Explains conflicts of states.
 #[derive(Drop)]
 pub struct Explainer<'a, 'grammar> {
-    ground: Ground<'a, 'grammar>,
+    context: Context<'a, 'grammar>,
 }
 
 impl<'a, 'grammar> Explainer<'a, 'grammar> {
@@ -30,13 +30,13 @@ impl<'a, 'grammar> Explainer<'a, 'grammar> {
         first_sets: &'a FirstSets<'grammar>,
         states: &'a [Lr1State<'grammar>],
     ) -> Result<Self, OutOfMemory>
-        ensures states { IfOk result (λ explainer. explainer.ground.states.now ≡ states.now) }
+        ensures states { IfOk result (λ explainer. explainer.context.states.now ≡ states.now) }
         ensures rules { IfOk result
-            (λ explainer. explainer.ground.first_sets.now ≡ first_sets.now) }
+            (λ explainer. explainer.context.first_sets.now ≡ first_sets.now) }
     {
         let tracer = Tracer::new(alloc, first_sets, states)?;
         Ok(Explainer {
-            ground: Ground {
+            context: Context {
                 states,
                 first_sets,
                 tracer,
@@ -53,19 +53,19 @@ impl<'a, 'grammar> Explainer<'a, 'grammar> {
         conflict: &'error Lr1Conflict<'grammar>,
         most: usize,
     ) -> Result<ExplainedConflict<'error, 'grammar>, OutOfMemory>
-        requires states { AreOwnStates self.now.ground.first_sets.now self.now.ground.states.now }
-        requires conflict { IsOwnConflict self.now.ground.first_sets.now.productions conflict.now }
-        ensures explained { IfOk result (IsExplained self.now.ground.first_sets.now
-            self.now.ground.states.now most conflict.now) }
+        requires states { AreOwnStates self.now.context.first_sets.now self.now.context.states.now }
+        requires conflict { IsOwnConflict self.now.context.first_sets.now.productions conflict.now }
+        ensures explained { IfOk result (IsExplained self.now.context.first_sets.now
+            self.now.context.states.now most conflict.now) }
     {
         let reduction = explained_reduction(
             alloc,
-            &self.ground,
+            &self.context,
             conflict,
             conflict.production,
             most,
         )?;
-        let others = explained_action(alloc, &self.ground, conflict, most)?;
+        let others = explained_action(alloc, &self.context, conflict, most)?;
         Ok(ExplainedConflict {
             conflict,
             reduction,
@@ -78,22 +78,22 @@ impl<'a, 'grammar> Explainer<'a, 'grammar> {
 // conflict.
 fn explained_reduction<'grammar>(
     alloc: Global,
-    ground: &Ground<'_, 'grammar>,
+    context: &Context<'_, 'grammar>,
     conflict: &Lr1Conflict<'grammar>,
     production: &'grammar Production,
     most: usize,
 ) -> Result<ExplainedItem<'grammar>, OutOfMemory>
-    requires states { AreOwnStates ground.now.first_sets.now ground.now.states.now }
-    requires production { Contains ground.now.first_sets.now.productions production.now }
-    ensures { IfOk result (IsExplainedReduction ground.now.first_sets.now ground.now.states.now most
-        conflict.now.state conflict.now.lookahead production.now) }
+    requires states { AreOwnStates context.now.first_sets.now context.now.states.now }
+    requires production { Contains context.now.first_sets.now.productions production.now }
+    ensures { IfOk result (IsExplainedReduction context.now.first_sets.now context.now.states.now
+        most conflict.now.state conflict.now.lookahead production.now) }
 {
     let item = Item {
         production,
         index: production.symbols.len(),
         lookahead: conflict.lookahead.clone(alloc)?,
     };
-    let examples = reduce_examples(alloc, ground, conflict.state, &item, most)?;
+    let examples = reduce_examples(alloc, context, conflict.state, &item, most)?;
     Ok(ExplainedItem {
         production,
         index: production.symbols.len(),
@@ -104,37 +104,38 @@ fn explained_reduction<'grammar>(
 // The items of the other action of a conflict, with examples.
 fn explained_action<'grammar>(
     alloc: Global,
-    ground: &Ground<'_, 'grammar>,
+    context: &Context<'_, 'grammar>,
     conflict: &Lr1Conflict<'grammar>,
     most: usize,
 ) -> Result<Vec<ExplainedItem<'grammar>>, OutOfMemory>
-    requires states { AreOwnStates ground.now.first_sets.now ground.now.states.now }
-    requires action { ReducesOwn ground.now.first_sets.now.productions conflict.now.action }
-    ensures { IfOk result (λ list. AreExplainedBy ground.now.first_sets.now ground.now.states.now
+    requires states { AreOwnStates context.now.first_sets.now context.now.states.now }
+    requires action { ReducesOwn context.now.first_sets.now.productions conflict.now.action }
+    ensures { IfOk result (λ list. AreExplainedBy context.now.first_sets.now context.now.states.now
         most conflict.now.state conflict.now.lookahead conflict.now.action list.items) }
 {
     match &conflict.action {
         Action::Shift(terminal, _) => {
-            explained_shifts(alloc, ground, conflict.state, terminal, most)
+            explained_shifts(alloc, context, conflict.state, terminal, most)
         }
-        Action::Reduce(production) => lone_reduction(alloc, ground, conflict, *production, most),
+        Action::Reduce(production) => lone_reduction(alloc, context, conflict, *production, most),
     }
 }
 
 // A list of the finished item of a reduction of a conflict alone, with examples.
 fn lone_reduction<'grammar>(
     alloc: Global,
-    ground: &Ground<'_, 'grammar>,
+    context: &Context<'_, 'grammar>,
     conflict: &Lr1Conflict<'grammar>,
     production: &'grammar Production,
     most: usize,
 ) -> Result<Vec<ExplainedItem<'grammar>>, OutOfMemory>
-    requires states { AreOwnStates ground.now.first_sets.now ground.now.states.now }
-    requires production { Contains ground.now.first_sets.now.productions production.now }
-    ensures { IfOk result (λ list. IsExplainedAlone ground.now.first_sets.now ground.now.states.now
+    requires states { AreOwnStates context.now.first_sets.now context.now.states.now }
+    requires production { Contains context.now.first_sets.now.productions production.now }
+    ensures { IfOk result (λ list. IsExplainedAlone context.now.first_sets.now
+        context.now.states.now
         most conflict.now.state conflict.now.lookahead production.now list.items) }
 {
-    let item = explained_reduction(alloc, ground, conflict, production, most)?;
+    let item = explained_reduction(alloc, context, conflict, production, most)?;
     let mut list = Vec::new(alloc);
     list.push(item)?;
     Ok(list)

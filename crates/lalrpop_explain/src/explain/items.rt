@@ -4,8 +4,8 @@ ghost use Rattle.lalrpop_explain.specs.explained.ExplainedConflicts.{AddsIfShift
 ghost use Rattle.lalrpop_traces.specs.Words.{items_at};
 
 use super::ExplainedItem;
+use super::context::{Context, items_in};
 use super::examples::shift_examples;
-use super::ground::{Ground, items_in};
 use lalrpop_base::exact::equal;
 use lalrpop_base::lr1_core::item::Lr1Item;
 use lalrpop_base::lr1_core::state::StateIndex;
@@ -16,35 +16,35 @@ use std::alloc::Global;
 /// The items of a state that shift the terminal, with examples.
 pub(crate) fn explained_shifts<'grammar>(
     alloc: Global,
-    ground: &Ground<'_, 'grammar>,
+    context: &Context<'_, 'grammar>,
     state: StateIndex,
     terminal: &TerminalString,
     most: usize,
 ) -> Result<Vec<ExplainedItem<'grammar>>, OutOfMemory>
-    ensures { IfOk result (λ list. AreExplainedShifts ground.now.first_sets.now
-        ground.now.states.now most state terminal.now
-        (items_at (slice_get ground.now.states.now state.0)) list.items) }
+    ensures { IfOk result (λ list. AreExplainedShifts context.now.first_sets.now
+        context.now.states.now most state terminal.now
+        (items_at (slice_get context.now.states.now state.0)) list.items) }
 {
-    let items = items_in(ground.states, state);
-    let list = explained_items(alloc, ground, state, terminal, items, most)?;
+    let items = items_in(context.states, state);
+    let list = explained_items(alloc, context, state, terminal, items, most)?;
     Ok(list)
 }
 
 // The items of a list that shift the terminal, with examples.
 fn explained_items<'grammar>(
     alloc: Global,
-    ground: &Ground<'_, 'grammar>,
+    context: &Context<'_, 'grammar>,
     state: StateIndex,
     terminal: &TerminalString,
     items: &[Lr1Item<'grammar>],
     most: usize,
 ) -> Result<Vec<ExplainedItem<'grammar>>, OutOfMemory>
-    ensures { IfOk result (λ list. AreExplainedShifts ground.now.first_sets.now
-        ground.now.states.now most state terminal.now items.now list.items) }
+    ensures { IfOk result (λ list. AreExplainedShifts context.now.first_sets.now
+        context.now.states.now most state terminal.now items.now list.items) }
 {
     let mut list = Vec::new(alloc);
     for item in items {
-        add_shift(alloc, &mut list, ground, state, terminal, item, most)?;
+        add_shift(alloc, &mut list, context, state, terminal, item, most)?;
     }
     Ok(list)
 }
@@ -53,19 +53,19 @@ fn explained_items<'grammar>(
 fn add_shift<'grammar>(
     alloc: Global,
     list: &mut Vec<ExplainedItem<'grammar>>,
-    ground: &Ground<'_, 'grammar>,
+    context: &Context<'_, 'grammar>,
     state: StateIndex,
     terminal: &TerminalString,
     item: &Lr1Item<'grammar>,
     most: usize,
 ) -> Result<(), OutOfMemory>
-    ensures { OnOk result (AddsIfShifting ground.now.first_sets.now ground.now.states.now most state
-        terminal.now item.now list.old.items list.new.items) }
+    ensures { OnOk result (AddsIfShifting context.now.first_sets.now context.now.states.now most
+        state terminal.now item.now list.old.items list.new.items) }
 {
     if !shifts(item, terminal) {
         return Ok(());
     }
-    let explained = explained_shift(alloc, ground, state, item, most)?;
+    let explained = explained_shift(alloc, context, state, item, most)?;
     list.push(explained)?;
     Ok(())
 }
@@ -73,15 +73,15 @@ fn add_shift<'grammar>(
 // An item of a state that shifts, with examples.
 fn explained_shift<'grammar>(
     alloc: Global,
-    ground: &Ground<'_, 'grammar>,
+    context: &Context<'_, 'grammar>,
     state: StateIndex,
     item: &Lr1Item<'grammar>,
     most: usize,
 ) -> Result<ExplainedItem<'grammar>, OutOfMemory>
-    ensures { IfOk result (IsExplainedShift ground.now.first_sets.now ground.now.states.now most
+    ensures { IfOk result (IsExplainedShift context.now.first_sets.now context.now.states.now most
         state item.now) }
 {
-    let examples = shift_examples(alloc, ground, state, item, most)?;
+    let examples = shift_examples(alloc, context, state, item, most)?;
     Ok(ExplainedItem {
         production: item.production,
         index: item.index,

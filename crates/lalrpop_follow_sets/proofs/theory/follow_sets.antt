@@ -1,5 +1,5 @@
 -- The follow sets of nonterminals in states, by one pass.
-pub mod FollowBegun
+pub mod ExpansionWalks
 pub mod FollowBits
 pub mod FollowClosures
 pub mod FollowFound
@@ -11,7 +11,7 @@ pub mod FollowSteps
 pub mod FollowTokens
 pub mod FollowUnions
 pub mod FollowWalks
-pub mod FrontWalks
+pub mod InitialSets
 pub mod Lookbacks
 pub mod StartNode
 pub mod TransitionNodes

@@ -1,2 +1,2 @@
 -- The symbols and dotted productions of a grammar, by number.
-pub mod FrontNumbers
+pub mod ExpansionNumbers

@@ -1,7 +1,7 @@
 -- The nodes of the follow graph by number (DeRemer and Pennello 1982), and the data that a pass
 -- over states reads.
 use Rattle.std.specs.Prelude.{◌≡◌, ◌<◌, ◌≤◌, ◌+◌, ◌⊎◌, ℕ, zero, suc, List, [], ◌∷◌, length, map, get_or, slice_get, Option, Some, None, Contains}
-use Rattle.lalrpop_base.specs.Words.{AllDiffer, AreClosed, AreCoherent, Contents, IsReached, IsWellFormed, rules_of, AreExpansions, AreNumbers, AreRests}
+use Rattle.lalrpop_base.specs.Words.{AllDiffer, AreClosed, AreCoherent, Contents, IsReached, IsWellFormed, rules_of, AreExpansions, AreNumbers, AreSuffixes}
 use Rattle.lalrpop_grammar.specs.declared.repr.NonterminalString.{NonterminalString}
 use Rattle.lalrpop_grammar.specs.declared.repr.Production.{Production}
 use Rattle.lalrpop_grammar.specs.declared.repr.Symbol.{Symbol}
@@ -23,7 +23,7 @@ IsNumberOrCount symbols name x = (slice_get symbols x ≡ Some (Nonterminal name
 -- the number of the start symbol, and the numbers of its productions with the dot at the start
 pub record IsStart (n : Numbers) (name : NonterminalString) (start : Start) : Type 0 where
   pub number : IsNumberOrCount n.symbols.items name start.number
-  pub fronts : AreExpansions n.items.items (Nonterminal name) start.fronts.items
+  pub expansions : AreExpansions n.items.items (Nonterminal name) start.expansions.items
 
 -- ---- nodes
 -- the nonterminal that a symbol is, and the start symbol for a terminal
@@ -84,15 +84,15 @@ IsNonterminalOrCount symbols x = ((a : NonterminalString) × (slice_get symbols 
 
 -- ---- the pass
 -- each dotted production of a state is of a production of the grammar
-abbrev pub AreOfGrammar : List Production → (ℕ → Contents) → Type 0
-AreOfGrammar productions states = (s : ℕ) (q : Production) (dot : ℕ) → Contains (states s).items (q, dot) → Contains productions q × (dot ≤ length q.symbols)
+abbrev pub AreItemsOfGrammar : List Production → (ℕ → Contents) → Type 0
+AreItemsOfGrammar productions states = (s : ℕ) (q : Production) (dot : ℕ) → Contains (states s).items (q, dot) → Contains productions q × (dot ≤ length q.symbols)
 
 -- each of the states below the count is reached from state 0 over edges
 abbrev pub AreAllReached : (ℕ → Contents) → ℕ → Type 0
 AreAllReached states count = (n : ℕ) → n < count → IsReached states n
 
 -- the pass is over states of a grammar that are closed and reached, with these states by number,
--- the rests of dotted productions, and the nodes of the follow graph
+-- the suffixes of dotted productions, and the nodes of the follow graph
 pub record IsPass (pass : Pass) : Type 0 where
   pub well_formed : IsWellFormed pass.grammar.now
   pub numbers : AreNumbers (rules_of pass.grammar.now) pass.numbers.now
@@ -100,9 +100,9 @@ pub record IsPass (pass : Pass) : Type 0 where
   pub some : 0 < length pass.states.now
   pub closed : AreClosed (rules_of pass.grammar.now).productions pass.name.now (places_in pass.states.now)
   pub reached : AreAllReached (places_in pass.states.now) (length pass.states.now)
-  pub own : AreOfGrammar (rules_of pass.grammar.now).productions (places_in pass.states.now)
+  pub own : AreItemsOfGrammar (rules_of pass.grammar.now).productions (places_in pass.states.now)
   pub numbered : AreNumberedStates pass.numbers.now pass.states.now pass.numbered.now
-  pub rests : AreRests (rules_of pass.grammar.now) pass.numbers.now.items.items pass.rests.now
+  pub suffixes : AreSuffixes (rules_of pass.grammar.now) pass.numbers.now.items.items pass.suffixes.now
   pub start : IsStart pass.numbers.now pass.name.now pass.start.now
   pub nodes : AreNodes pass.numbers.now.symbols.items pass.start.now.number pass.numbered.now pass.nodes.now
 

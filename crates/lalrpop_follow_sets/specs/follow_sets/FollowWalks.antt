@@ -3,7 +3,7 @@
 use Rattle.std.specs.Prelude.{◌≡◌, ◌<◌, ◌↔◌, ◌⊎◌, ℕ, true, List, [], ◌∷◌, length, drop, take, slice_get, Option, Some, None, Contains, MatchOption}
 use Rattle.std.specs.declared.alloc.Global.{Global}
 use Rattle.std.specs.declared.vec.Vec.{Vec}
-use Rattle.lalrpop_base.specs.Words.{Bits, Contents, Dotted, has, HoldsBit, IsFirst, IsNullable, Rules, edge_ends, leads, rules_of, state_from, HasRest, with_dot}
+use Rattle.lalrpop_base.specs.Words.{Bits, Contents, Dotted, has, HoldsBit, IsFirst, IsNullable, Rules, edge_ends, leads, rules_of, state_from, HasSuffix, with_dot}
 use Rattle.lalrpop_follow_sets.specs.lanes.FollowGraphs.{HasBitAtOnce, IsFollowNode}
 use Rattle.lalrpop_follow_sets.specs.lanes.FollowSets.{HasLookaheadBits, LeadsOver}
 use Rattle.lalrpop_states.specs.declared.lookahead.nil.Nil.{Nil}
@@ -14,9 +14,9 @@ use Rattle.lalrpop_grammar.specs.declared.repr.Symbol.TheVariants.{Nonterminal, 
 use Rattle.lalrpop_grammar.specs.declared.repr.TerminalString.{TerminalString}
 use Rattle.lalrpop_follow_sets.specs.follow_sets.FollowNodes.{nodes_of}
 use Rattle.lalrpop_construction.specs.states.SamePlaces.{places_in}
-use Rattle.lalrpop_construction.specs.states.NumberedStates.{items_at}
+use Rattle.lalrpop_construction.specs.states.NumberedStates.{item_numbers_at}
 use Rattle.lalrpop_numbers.specs.declared.numbers.Numbers.{Numbers}
-use Rattle.lalrpop_follow_sets.specs.declared.follow_sets.found.Found.{Found}
+use Rattle.lalrpop_follow_sets.specs.declared.follow_sets.sets.FollowSets.{FollowSets}
 use Rattle.lalrpop_follow_sets.specs.declared.follow_sets.pass.Pass.{Pass}
 
 -- ---- tokens that follow at once
@@ -27,7 +27,7 @@ pub record AreEmptySets (count : ℕ) (sets : List Bits) : Type 0 where
 
 -- the bit is of a terminal in FIRST of an item's rest: the symbols after the nonterminal after its
 -- dot. The item has the number k, and the node n is that nonterminal in the state s
-pub record IsRestBit (pass : Pass) (s k n bit : ℕ) : Type 0 where
+pub record IsSuffixBit (pass : Pass) (s k n bit : ℕ) : Type 0 where
   pub name : NonterminalString
   pub after : List Symbol
   pub item : Dotted Nil
@@ -37,15 +37,15 @@ pub record IsRestBit (pass : Pass) (s k n bit : ℕ) : Type 0 where
   pub first : (t : TerminalString) × (slice_get (rules_of pass.grammar.now).terminals bit ≡ Some t) × IsFirst (rules_of pass.grammar.now).productions after t
 
 -- the same of some item that the state lists; below, of some item that any state lists
-abbrev pub IsRestBitIn : Pass → ℕ → ℕ → ℕ → Type 0
-IsRestBitIn pass s n bit = (k : ℕ) × Contains (items_at pass.numbered.now s) k × IsRestBit pass s k n bit
+abbrev pub IsSuffixBitIn : Pass → ℕ → ℕ → ℕ → Type 0
+IsSuffixBitIn pass s n bit = (k : ℕ) × Contains (item_numbers_at pass.numbered.now s) k × IsSuffixBit pass s k n bit
 
-abbrev pub IsSomeRestBit : Pass → ℕ → ℕ → Type 0
-IsSomeRestBit pass n bit = (s : ℕ) × IsRestBitIn pass s n bit
+abbrev pub IsSomeSuffixBit : Pass → ℕ → ℕ → Type 0
+IsSomeSuffixBit pass n bit = (s : ℕ) × IsSuffixBitIn pass s n bit
 
 -- the node is of the start symbol, and the bit is that of Eof
-abbrev pub IsEndBit : Pass → ℕ → ℕ → Type 0
-IsEndBit pass n bit = (s : ℕ) × IsFollowNode (nodes_of pass) n s pass.name.now × (bit ≡ length (rules_of pass.grammar.now).terminals)
+abbrev pub IsEofOfStartNode : Pass → ℕ → ℕ → Type 0
+IsEofOfStartNode pass n bit = (s : ℕ) × IsFollowNode (nodes_of pass) n s pass.name.now × (bit ≡ length (rules_of pass.grammar.now).terminals)
 
 -- each set gets such bits of its number, keeps its own, and gets no others
 pub record TakesBits (Such : ℕ → ℕ → Type 0) (old new : List Bits) : Type 0 where
@@ -53,18 +53,18 @@ pub record TakesBits (Such : ℕ → ℕ → Type 0) (old new : List Bits) : Typ
   pub bits : (n bit : ℕ) → HoldsBit new n bit ↔ (HoldsBit old n bit ⊎ Such n bit)
 
 -- the set of each node has exactly the bits of the tokens that follow its nonterminal at once
-pub record AreBegun (pass : Pass) (sets : List Bits) : Type 0 where
+pub record AreInitialSets (pass : Pass) (sets : List Bits) : Type 0 where
   pub counted : length sets ≡ length (nodes_of pass)
   pub begun : (n s : ℕ) (a : NonterminalString) → IsFollowNode (nodes_of pass) n s a → (bit : ℕ) → HoldsBit sets n bit ↔ HasBitAtOnce (rules_of pass.grammar.now) pass.name.now (places_in pass.states.now) (nodes_of pass) s a bit
 
 -- ---- walks
 -- the number is that of the production with the dot at the start
-abbrev pub IsFrontOf : Pass → ℕ → Production → Type 0
-IsFrontOf pass k q = slice_get pass.numbers.now.items.items k ≡ Some (with_dot q 0)
+abbrev pub IsNumberAtStart : Pass → ℕ → Production → Type 0
+IsNumberAtStart pass k q = slice_get pass.numbers.now.items.items k ≡ Some (with_dot q 0)
 
 -- the symbol after the dot is a nonterminal, and the rest after it is nullable
 abbrev pub HasNullableRest : Pass → Dotted Nil → Type 0
-HasNullableRest pass i = (a : NonterminalString) × (after : List Symbol) × HasRest i a after × IsNullable (rules_of pass.grammar.now).productions after
+HasNullableRest pass i = (a : NonterminalString) × (after : List Symbol) × HasSuffix i a after × IsNullable (rules_of pass.grammar.now).productions after
 
 -- a step goes by a transition from the state over the symbol after the dot, which is a nonterminal
 -- with a nullable rest; the node n is that nonterminal in the state
@@ -72,7 +72,7 @@ pub record StepsThrough (pass : Pass) (state : ℕ) (i : Dotted Nil) (n : ℕ) :
   pub name : NonterminalString
   pub after : List Symbol
   pub target : ℕ
-  pub behind : HasRest i name after
+  pub behind : HasSuffix i name after
   pub nullable : IsNullable (rules_of pass.grammar.now).productions after
   pub edge : (places_in pass.states.now state).goto name ≡ Some target
   pub node : IsFollowNode (nodes_of pass) n state name
@@ -127,8 +127,8 @@ pub record NotesEnds (m : ℕ) (Such : ℕ → ℕ → Type 0) (old new : List (
   pub entries : (s k n : ℕ) → Contains (entries_at new s) (k, n) ↔ (Contains (entries_at old s) (k, n) ⊎ ((n ≡ m) × Such s k))
 
 -- one of the numbers is that of such a production with the dot at the start
-abbrev pub SomeFront : Pass → List ℕ → (Production → Type 0) → Type 0
-SomeFront pass fronts Such = (k : ℕ) × (q : Production) × Contains fronts k × IsFrontOf pass k q × Such q
+abbrev pub SomeExpansion : Pass → List ℕ → (Production → Type 0) → Type 0
+SomeExpansion pass expansions Such = (k : ℕ) × (q : Production) × Contains expansions k × IsNumberAtStart pass k q × Such q
 
 -- some production of the node's nonterminal is such, together with the node's state
 abbrev pub SomeOfNode : Pass → ℕ → (ℕ → Production → Type 0) → Type 0
@@ -181,7 +181,7 @@ pub data ShareBits (first : Bits) (sets : List Bits) : Type 0 where
 
 -- the result of a pass over states: for each finished item, the union of the follow sets of its
 -- nodes is its lookahead set
-pub record FindsLookaheads (g : Rules) (start : NonterminalString) (n : Numbers) (states : ℕ → Contents) (count : ℕ) (found : Found) : Type 0 where
+pub record FindsLookaheads (g : Rules) (start : NonterminalString) (n : Numbers) (states : ℕ → Contents) (count : ℕ) (found : FollowSets) : Type 0 where
   pub counted : length found.lookback.items ≡ count
   pub within : (s k m : ℕ) → Contains (entries_at found.lookback.items s) (k, m) → m < length found.follow.items
   pub lookaheads : (s k : ℕ) (p : Production) → Contains (states s).items (p, length p.symbols) → slice_get n.items.items k ≡ Some (with_dot p (length p.symbols)) → (set : Bits) → ((bit : ℕ) → (has set bit ≡ true) ↔ IsInUnion found.follow.items (entries_at found.lookback.items s) k bit) → HasLookaheadBits g start states s set p

@@ -42,5 +42,5 @@ module _ (g : Rules) (start : NonterminalString) (states : ℕ → Contents) (no
   HasLookbackNodes s p = (r : ℕ) → LeadsOver states r p.symbols s → (m : ℕ) × IsFollowNode nodes m r p.nonterminal
 
 -- each item of a state with the dot at the start has a node for its nonterminal in this state
-abbrev pub HaveBegunNodes : (ℕ → Contents) → List (ℕ × NonterminalString) → Type 0
-HaveBegunNodes states nodes = (r : ℕ) (q : Production) → Contains (states r).items (q, 0) → (m : ℕ) × IsFollowNode nodes m r q.nonterminal
+abbrev pub HaveNodesAtStart : (ℕ → Contents) → List (ℕ × NonterminalString) → Type 0
+HaveNodesAtStart states nodes = (r : ℕ) (q : Production) → Contains (states r).items (q, 0) → (m : ℕ) × IsFollowNode nodes m r q.nonterminal

@@ -6,7 +6,7 @@ use Rattle.lalrpop_grammar.specs.grammars.Tokens.{IsBitOf}
 use Rattle.lalrpop_grammar.specs.grammars.WellFormed.{Rules}
 use Rattle.lalrpop_collections.specs.lists.Bits.{Bits, has}
 use Rattle.lalrpop_grammar.specs.states.States.{Contents, state_from}
-use Rattle.lalrpop_states.specs.conflicts.StateConflicts.{HasNoConflict, Reduction}
+use Rattle.lalrpop_states.specs.conflicts.StateConflicts.{IsConflictFree, StateReduction}
 use Rattle.lalrpop_grammar.specs.declared.lookahead.token.Token.{Token}
 use Rattle.lalrpop_grammar.specs.declared.lookahead.token.Token.TheVariants.{Eof, Terminal as TokenOf}
 use Rattle.lalrpop_states.specs.declared.lr1_core.state.State.{State}
@@ -60,5 +60,5 @@ module _ (g : Rules) (start : NonterminalString) (states : ℕ → Contents) (s 
   -- each reduction of the state holds exactly the bits of its lookahead set, and the state has no
   -- conflict
   pub record HoldsLookaheads (state : State Bits) : Type 0 where
-    pub holds : (r : Reduction) → Contains state.reductions.items r → HasLookaheadBits r.0 r.1.now
-    pub free : HasNoConflict g.terminals state
+    pub holds : (r : StateReduction) → Contains state.reductions.items r → HasLookaheadBits r.0 r.1.now
+    pub free : IsConflictFree g.terminals state

@@ -2,7 +2,7 @@
 use Rattle.std.specs.Prelude.{◌≡◌, ◌↔◌, ℕ, true, List, length, Some, Contains}
 use Rattle.std.specs.Borrow.{Bor}
 use Rattle.lalrpop_base.specs.Words.{Bits, has, IsLaneToken, Contents, IsBitOf, Action, Shift, Reduce, Rules}
-use Rattle.lalrpop_states.specs.conflicts.StateConflicts.{HasNoConflict}
+use Rattle.lalrpop_states.specs.conflicts.StateConflicts.{IsConflictFree}
 use Rattle.lalrpop_grammar.specs.declared.lookahead.token.Token.{Token}
 use Rattle.lalrpop_grammar.specs.declared.lookahead.token.Token.TheVariants.{Terminal as TokenOf}
 use Rattle.lalrpop_states.specs.declared.lr1_core.state.State.{State}
@@ -19,7 +19,7 @@ module _ (g : Rules) (start : NonterminalString) (places : ℕ → Contents) (s 
   -- conflict
   pub record IsResolved (state : State Bits) : Type 0 where
     pub holds : (r : Bits × Bor Production) → Contains state.reductions.items r → HasLaneBits r.0 r.1.now
-    pub free : HasNoConflict g.terminals state
+    pub free : IsConflictFree g.terminals state
 
 -- ---- actions that share a token
 module _ (g : List Production) (start : NonterminalString) (states : ℕ → Contents) (n : ℕ) where

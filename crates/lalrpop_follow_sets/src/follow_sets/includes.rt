@@ -25,7 +25,14 @@ pub(super) fn includes(
     for node in 0..pairs.len() {
         let (state, symbol) = pairs[node];
         let mut ends = Vec::new(alloc);
-        walk_all(pass, node, state, pass.fronts(symbol), &mut ends, lookback)?;
+        walk_all(
+            pass,
+            node,
+            state,
+            pass.expansions(symbol),
+            &mut ends,
+            lookback,
+        )?;
         edges.push(ends)?;
     }
     Ok(edges)

@@ -3,7 +3,7 @@
 ghost use Rattle.std.specs.Prelude.{◌≡◌, ◌<◌, ℕ, length, Contains, IfOk, OnOk};
 ghost use Rattle.lalrpop_grammar.specs.declared.repr.Production.{Production as OfGrammar};
 ghost use Rattle.lalrpop_follow_sets.specs.follow_sets.FollowNodes.{IsPass};
-ghost use Rattle.lalrpop_follow_sets.specs.follow_sets.FollowWalks.{AreEmptyLists, EndsAt, GoesThrough, IsFrontOf, NotesEnds, SomeFront};
+ghost use Rattle.lalrpop_follow_sets.specs.follow_sets.FollowWalks.{AreEmptyLists, EndsAt, GoesThrough, IsNumberAtStart, NotesEnds, SomeExpansion};
 ghost use Rattle.lalrpop_base.specs.Words.{AddsThose};
 
 use super::pass::Pass;
@@ -31,23 +31,23 @@ fn walk_from(
     pass: &Pass<'_, '_>,
     node: usize,
     from: usize,
-    front: usize,
+    expansion: usize,
     ends: &mut Vec<usize>,
     lookback: &mut Lookback,
 ) -> Result<(), OutOfMemory>
     requires pass { IsPass pass.now }
     requires listed { from < length pass.now.states.now }
-    requires front { (q : OfGrammar) × IsFrontOf pass.now front q }
+    requires expansion { (q : OfGrammar) × IsNumberAtStart pass.now expansion q }
     requires counted { length lookback.old.items ≡ length pass.now.states.now }
     ensures through { (q : OfGrammar) →
-        IsFrontOf pass.now front q →
+        IsNumberAtStart pass.now expansion q →
         OnOk result (AddsThose (GoesThrough pass.now from q) ends.old.items ends.new.items) }
     ensures noted { (q : OfGrammar) →
-        IsFrontOf pass.now front q →
+        IsNumberAtStart pass.now expansion q →
         OnOk result (NotesEnds node (EndsAt pass.now from q) lookback.old.items
         lookback.new.items) }
 {
-    if let Some((state, item)) = walk(pass, from, front, ends)? {
+    if let Some((state, item)) = walk(pass, from, expansion, ends)? {
         lookback[state].push((item, node))?;
     }
     Ok(())
@@ -59,25 +59,25 @@ pub(super) fn walk_all(
     pass: &Pass<'_, '_>,
     node: usize,
     from: usize,
-    fronts: &[usize],
+    expansions: &[usize],
     ends: &mut Vec<usize>,
     lookback: &mut Lookback,
 ) -> Result<(), OutOfMemory>
     requires pass { IsPass pass.now }
     requires listed { from < length pass.now.states.now }
-    requires fronts { (k : ℕ) →
-        Contains fronts.now k →
-        (q : OfGrammar) × IsFrontOf pass.now k q }
+    requires expansions { (k : ℕ) →
+        Contains expansions.now k →
+        (q : OfGrammar) × IsNumberAtStart pass.now k q }
     requires counted { length lookback.old.items ≡ length pass.now.states.now }
     ensures through { OnOk result (AddsThose
-        (λ n. SomeFront pass.now fronts.now (λ q. GoesThrough pass.now from q n))
+        (λ n. SomeExpansion pass.now expansions.now (λ q. GoesThrough pass.now from q n))
         ends.old.items ends.new.items) }
     ensures noted { OnOk result (NotesEnds node
-        (λ s k. SomeFront pass.now fronts.now (λ q. EndsAt pass.now from q s k))
+        (λ s k. SomeExpansion pass.now expansions.now (λ q. EndsAt pass.now from q s k))
         lookback.old.items lookback.new.items) }
 {
-    for front in fronts {
-        walk_from(pass, node, from, *front, ends, lookback)?;
+    for expansion in expansions {
+        walk_from(pass, node, from, *expansion, ends, lookback)?;
     }
     Ok(())
 }

@@ -1,7 +1,6 @@
 //! The nodes of the follow graph: nonterminals in states.
 ghost use Rattle.std.specs.Prelude.{◌≡◌, ◌<◌, ◌++◌, ℕ, length, slice_get, Some, Contains, IfOk, OnOk};
 ghost use Rattle.lalrpop_follow_sets.specs.follow_sets.FollowNodes.{AreNodes, AreTransitionNodes, IsNonterminalOrCount, nonterminals_of};
-ghost use Rattle.lalrpop_construction.specs.states.NumberedStates.{EdgesAscend};
 ghost use Rattle.lalrpop_base.specs.Words.{SymbolsAscend};
 ghost use Rattle.lalrpop_construction.specs.declared.construction.numbered_state.NumberedState.{NumberedState as ByNumbers};
 
@@ -53,9 +52,6 @@ fn transition_nodes(
         slice_get states.now s ≡ Some state →
         Contains state.edges.items (x, target) →
         x < length symbols.now }
-    requires ascend { (s : ℕ) (state : ByNumbers) →
-        slice_get states.now s ≡ Some state →
-        EdgesAscend state.edges.items }
     ensures { IfOk result (AreTransitionNodes symbols.now states.now) }
 {
     let mut firsts = Vec::new(alloc);
@@ -79,9 +75,6 @@ pub(super) fn nodes_of(
         slice_get states.now s ≡ Some state →
         Contains state.edges.items (x, target) →
         x < length symbols.now }
-    requires ascend { (s : ℕ) (state : ByNumbers) →
-        slice_get states.now s ≡ Some state →
-        EdgesAscend state.edges.items }
     requires some { 0 < length states.now }
     requires start { IsNonterminalOrCount symbols.now start }
     ensures { IfOk result (AreNodes symbols.now start states.now) }

@@ -18,7 +18,7 @@ pub(super) struct Start {
     /// side.
     pub(super) number: usize,
     /// The numbers of the start symbol's productions with the dot at the start.
-    pub(super) fronts: Vec<usize>,
+    pub(super) expansions: Vec<usize>,
 }
 
 // The number of a nonterminal, or the count of all symbols, if the nonterminal is on no right side.
@@ -38,22 +38,22 @@ fn number_or_count(
 }
 
 /// The numbers of the productions of a nonterminal with the dot at the start.
-pub(crate) fn fronts_of(
+pub(crate) fn expansions_by_name(
     alloc: Global,
     numbers: &Numbers,
     name: &NonterminalString,
 ) -> Result<Vec<usize>, OutOfMemory>
-    ensures { IfOk result (λ fronts. AreExpansions numbers.now.items.items
-        (Nonterminal name.now) fronts.items) }
+    ensures { IfOk result (λ expansions. AreExpansions numbers.now.items.items
+        (Nonterminal name.now) expansions.items) }
 {
-    let mut fronts = Vec::new(alloc);
+    let mut expansions = Vec::new(alloc);
     for number in 0..numbers.items.len() {
         let item = &numbers.items[number];
         if item.index == 0 && equal(&item.production.nonterminal, name) {
-            fronts.push(number)?;
+            expansions.push(number)?;
         }
     }
-    Ok(fronts)
+    Ok(expansions)
 }
 
 impl Start {
@@ -67,7 +67,7 @@ impl Start {
         ensures { IfOk result (IsStart numbers.now name.now) }
     {
         let number = number_or_count(alloc, &numbers.symbols, name)?;
-        let fronts = fronts_of(alloc, numbers, name)?;
-        Ok(Start { number, fronts })
+        let expansions = expansions_by_name(alloc, numbers, name)?;
+        Ok(Start { number, expansions })
     }
 }

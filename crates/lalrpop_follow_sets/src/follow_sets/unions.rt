@@ -2,7 +2,7 @@
 ghost use Rattle.std.specs.Prelude.{◌≡◌, ◌<◌, ℕ, length, Contains, IfOk, OnOk};
 ghost use Rattle.lalrpop_follow_sets.specs.follow_sets.FollowWalks.{AreUnions, JoinsUnions};
 
-use super::begun::empty_sets;
+use super::initial_sets::empty_sets;
 use lalrpop_base::lookahead::token_set::TokenSet;
 use lalrpop_base::memory::OutOfMemory;
 use lalrpop_base::repr::terminals::TerminalSet;

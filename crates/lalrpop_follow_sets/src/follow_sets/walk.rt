@@ -4,13 +4,13 @@ ghost use Rattle.lalrpop_base.specs.Words.{Dotted, AddsThose};
 ghost use Rattle.lalrpop_states.specs.declared.lookahead.nil.Nil.{Nil};
 ghost use Rattle.lalrpop_grammar.specs.declared.repr.Production.{Production as OfGrammar};
 ghost use Rattle.lalrpop_follow_sets.specs.follow_sets.FollowNodes.{IsPass};
-ghost use Rattle.lalrpop_follow_sets.specs.follow_sets.FollowWalks.{GoesThrough, HasNullableRest, IsEndOfWalk, IsFrontOf, IsGoneOver, StepsThrough};
+ghost use Rattle.lalrpop_follow_sets.specs.follow_sets.FollowWalks.{GoesThrough, HasNullableRest, IsEndOfWalk, IsNumberAtStart, IsGoneOver, StepsThrough};
 
 use super::edges::place_of;
 use super::pass::Pass;
 use lalrpop_base::memory::OutOfMemory;
 
-// Whether the symbol after the dot is a nonterminal, and the rest after it is nullable.
+// Whether the symbol after the dot is a nonterminal, and the suffix after it is nullable.
 fn passes(pass: &Pass<'_, '_>, item: usize) -> bool
     requires pass { IsPass pass.now }
     requires known { item < length pass.now.numbers.now.items.items }
@@ -18,14 +18,14 @@ fn passes(pass: &Pass<'_, '_>, item: usize) -> bool
         slice_get pass.now.numbers.now.items.items item ≡ Some i →
         IsTrue result ↔ HasNullableRest pass.now i }
 {
-    match &pass.rests[item] {
-        Some(rest) => rest.nullable,
+    match &pass.suffixes[item] {
+        Some(suffix) => suffix.nullable,
         None => false,
     }
 }
 
 // Goes over the symbol after a dot, and returns the state to which it leads. If the symbol is a
-// nonterminal with a nullable rest, its node is appended to `ends`.
+// nonterminal with a nullable suffix, its node is appended to `ends`.
 fn step(
     pass: &Pass<'_, '_>,
     state: usize,
@@ -55,26 +55,26 @@ fn step(
 }
 
 /// Walks over the symbols after a dot, and returns the state and the finished item to which they
-/// lead. `None` if they lead to no state. The nodes of nonterminals with a nullable rest are
+/// lead. `None` if they lead to no state. The nodes of nonterminals with a nullable suffix are
 /// appended to `ends`.
 pub(super) fn walk(
     pass: &Pass<'_, '_>,
     from: usize,
-    front: usize,
+    expansion: usize,
     ends: &mut Vec<usize>,
 ) -> Result<Option<(usize, usize)>, OutOfMemory>
     requires pass { IsPass pass.now }
     requires listed { from < length pass.now.states.now }
-    requires front { (q : OfGrammar) × IsFrontOf pass.now front q }
+    requires expansion { (q : OfGrammar) × IsNumberAtStart pass.now expansion q }
     ensures through { (q : OfGrammar) →
-        IsFrontOf pass.now front q →
+        IsNumberAtStart pass.now expansion q →
         OnOk result (AddsThose (GoesThrough pass.now from q) ends.old.items ends.new.items) }
     ensures end { IfOk result (λ end. (q : OfGrammar) →
-        IsFrontOf pass.now front q →
+        IsNumberAtStart pass.now expansion q →
         IsEndOfWalk pass.now from q end) }
 {
     let mut state = from;
-    let mut item = front;
+    let mut item = expansion;
     while let Some(symbol) = pass.numbers.behind[item] {
         let Some(target) = step(pass, state, item, symbol, ends)? else {
             return Ok(None);

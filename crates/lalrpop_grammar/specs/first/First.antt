@@ -7,7 +7,7 @@ use Rattle.lalrpop_grammar.specs.declared.repr.Symbol.TheVariants.{Nonterminal}
 use Rattle.lalrpop_collections.specs.lists.Bits.{Bits, has}
 use Rattle.lalrpop_grammar.specs.grammars.Grammar.{IsFirst, IsNullable}
 use Rattle.lalrpop_grammar.specs.grammars.WellFormed.{Rules}
-use Rattle.lalrpop_grammar.specs.first.FirstTables.{Table, set_of}
+use Rattle.lalrpop_grammar.specs.first.FirstTables.{Table, first_set_of}
 
 -- the set has the terminals that are in FIRST of the symbols, Eof exactly if the symbols are
 -- nullable, and nothing else (Aho, Sethi, Ullman, section 4.4)
@@ -24,4 +24,4 @@ pub record IsFirstSetBefore (g : Rules) (symbols : List Symbol) (follow set : Bi
 
 -- the set of each name is FIRST of the name alone. A name without a set has the empty one
 abbrev pub AreFirstSetsOf : Rules → Table → Type 0
-AreFirstSetsOf g table = (name : NonterminalString) → IsFirstSet g (Nonterminal name ∷ []) (set_of table name)
+AreFirstSetsOf g table = (name : NonterminalString) → IsFirstSet g (Nonterminal name ∷ []) (first_set_of table name)

@@ -21,9 +21,9 @@ place [] name = zero
 place (a ∷ names) name = cond (is_at (name_cmp name) a) zero (suc (place names name))
 
 -- the names, each with its number, counted from n
-abbrev pub numbers_from : ℕ → List NonterminalString → List (NonterminalString × ℕ)
-numbers_from n [] = []
-numbers_from n (a ∷ names) = (a, n) ∷ numbers_from (suc n) names
+abbrev pub numbered_names : ℕ → List NonterminalString → List (NonterminalString × ℕ)
+numbered_names n [] = []
+numbered_names n (a ∷ names) = (a, n) ∷ numbered_names (suc n) names
 
 -- a terminal becomes its bit, a nonterminal the place of its name
 abbrev pub IsNumberedSymbol : List TerminalString → List NonterminalString → Symbol → NumberedSymbol → Type 0

@@ -9,14 +9,14 @@ use Rattle.lalrpop_collections.specs.lists.Queues.{Waiting, waits}
 
 -- the bits that the sets give for the production are joined to the set of its name. grew says
 -- whether that set grew, and end is the bit of Eof
-pub record IsAdded (end : ℕ) (production : NumberedProduction) (grew : Bool) (old new : List Bits) : Type 0 where
+pub record IsProductionAdded (end : ℕ) (production : NumberedProduction) (grew : Bool) (old new : List Bits) : Type 0 where
   pub given : Bits
   pub gives : (bit : ℕ) → (has given bit ≡ true) ↔ GivesByNumber end old production.symbols bit
   pub joined : new ≡ slice_set old production.name (join (set_at old production.name) given)
   pub told : MatchBool grew (join (set_at old production.name) given ≢ set_at old production.name) (join (set_at old production.name) given ≡ set_at old production.name)
 
 -- the numbers wait too, and the queue is no longer than its limit, if it was no longer before
-pub record IsQueued (numbers : List ℕ) (old new : Waiting) : Type 0 where
+pub record Enqueues (numbers : List ℕ) (old new : Waiting) : Type 0 where
   pub limit : new.limit ≡ old.limit
   pub kept : (k : ℕ) → waits old.numbers k ≡ true → waits new.numbers k ≡ true
   pub all : (k : ℕ) → Contains numbers k → waits new.numbers k ≡ true
@@ -25,6 +25,6 @@ pub record IsQueued (numbers : List ℕ) (old new : Waiting) : Type 0 where
 -- the production is added, and the uses of its name wait if its set grew
 pub record IsTurn (end : ℕ) (production : NumberedProduction) (uses : List (List ℕ)) (old new : List Bits) (before after : Waiting) : Type 0 where
   pub grew : Bool
-  pub added : IsAdded end production grew old new
-  pub queued : grew ≡ true → IsQueued (uses_at uses production.name) before after
+  pub added : IsProductionAdded end production grew old new
+  pub queued : grew ≡ true → Enqueues (uses_at uses production.name) before after
   pub left : grew ≡ false → after ≡ before

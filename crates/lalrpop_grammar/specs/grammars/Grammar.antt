@@ -22,18 +22,18 @@ abbrev pub IsFirst : List Production → List Symbol → TerminalString → Type
 IsFirst g l t = (rest : List Symbol) × Derives g l (Terminal t ∷ rest)
 
 -- a list of terminals, as a list of symbols
-abbrev pub symbols_of : List TerminalString → List Symbol
-symbols_of w = map Terminal w
+abbrev pub terminal_symbols : List TerminalString → List Symbol
+terminal_symbols w = map Terminal w
 
 -- a sentence is a list of terminals that the start symbol derives: Knuth 1965, section I
 abbrev pub IsSentence : List Production → NonterminalString → List TerminalString → Type 0
-IsSentence g start w = Derives g (Nonterminal start ∷ []) (symbols_of w)
+IsSentence g start w = Derives g (Nonterminal start ∷ []) (terminal_symbols w)
 
 -- a beginning is a list of terminals with which some list begins that the start symbol derives. The
 -- empty list is one. Any symbols may follow the terminals, which is this project's form of a prefix
 -- of a sentence
 abbrev pub IsBeginning : List Production → NonterminalString → List TerminalString → Type 0
-IsBeginning g start w = (rest : List Symbol) × Derives g (Nonterminal start ∷ []) (symbols_of w ++ rest)
+IsBeginning g start w = (rest : List Symbol) × Derives g (Nonterminal start ∷ []) (terminal_symbols w ++ rest)
 
 -- a nonterminal is on no right side
 abbrev pub IsOnNoRightSide : List Production → NonterminalString → Type 0

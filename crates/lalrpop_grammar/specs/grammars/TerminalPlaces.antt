@@ -24,6 +24,6 @@ IsIndexed xs (Repeat place) = (x : TerminalString) × IsFirstRepeat xs place x
 
 -- the terminals all differ, there are few enough to number two more tokens, and the map has their
 -- places
-pub record ArePlaced (xs : List TerminalString) (places : BTreeMap TerminalString ℕ) : Type 0 where
+pub record AreTerminalPlaces (xs : List TerminalString) (places : BTreeMap TerminalString ℕ) : Type 0 where
   pub numbered : IsNumbered xs
   pub placed : HasPlaces xs (length xs) places

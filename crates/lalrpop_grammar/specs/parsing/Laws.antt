@@ -108,8 +108,8 @@ abbrev pub LanesAreChecked : Type 0
 LanesAreChecked = (g : List Production) (start : NonterminalString) (states : ℕ → Contents) → AreClosed g start states → AreLr0 g start states → ((n : ℕ) → ReducesFinished (states n)) → ((n : ℕ) (r : Reduction) → Contains (states n).reductions r → IsReached states n) → IsOnNoRightSide g start → IsLALR1 g start → HoldLaneTokens g start states → AreChecked g start states
 
 -- no state after a live prefix has a conflict
-abbrev pub HaveNoConflict : List Production → NonterminalString → (ℕ → Contents) → Type 0
-HaveNoConflict g start states = (u : List Symbol) (n : ℕ) → IsLive g start u → state_after states u ≡ Some n → HasNoConflict (states n)
+abbrev pub AreLiveStatesConflictFree : List Production → NonterminalString → (ℕ → Contents) → Type 0
+AreLiveStatesConflictFree g start states = (u : List Symbol) (n : ℕ) → IsLive g start u → state_after states u ≡ Some n → HasNoConflict (states n)
 
 -- LR(0) states that hold their LALR tokens are faithful exactly if the grammar is LALR(1)
 abbrev pub LalrAreFaithful : Type 0
@@ -122,7 +122,7 @@ AreCanonicalWith g start states tokens = AreCanonical g start states (λ n p dot
 -- LR(0) states that hold their LALR tokens have no conflict after live prefixes exactly if the
 -- grammar is LALR(1)
 abbrev pub LalrStatesHaveNoConflict : Type 0
-LalrStatesHaveNoConflict = (g : List Production) (start : NonterminalString) (states : ℕ → Contents) → AreLr0 g start states → HoldLalrTokens g start states → HaveNoConflict g start states ↔ IsLALR1 g start
+LalrStatesHaveNoConflict = (g : List Production) (start : NonterminalString) (states : ℕ → Contents) → AreLr0 g start states → HoldLalrTokens g start states → AreLiveStatesConflictFree g start states ↔ IsLALR1 g start
 
 -- if canonical states with the same dotted productions are merged, the results are LR(0) states
 -- that hold their LALR tokens
@@ -143,7 +143,7 @@ CanonicalAreFaithful = (g : List Production) (start : NonterminalString) (states
 
 -- canonical states have no conflict after live prefixes exactly if the grammar is LR(1)
 abbrev pub CanonicalStatesHaveNoConflict : Type 0
-CanonicalStatesHaveNoConflict = (g : List Production) (start : NonterminalString) (states : ℕ → Contents) (tokens : ℕ → Production → ℕ → Token → Bool) → AreCanonicalWith g start states tokens → HaveNoConflict g start states ↔ IsLR1 g start
+CanonicalStatesHaveNoConflict = (g : List Production) (start : NonterminalString) (states : ℕ → Contents) (tokens : ℕ → Production → ℕ → Token → Bool) → AreCanonicalWith g start states tokens → AreLiveStatesConflictFree g start states ↔ IsLR1 g start
 
 -- two prefixes lead to one canonical state exactly if they have the same valid dotted productions
 -- with the same valid tokens, provided that kernels do not repeat

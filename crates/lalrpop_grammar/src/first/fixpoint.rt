@@ -6,7 +6,7 @@ ghost use Rattle.lalrpop_grammar.specs.grammars.WellFormed.{IsWellFormed, rules_
 ghost use Rattle.lalrpop_grammar.specs.first.First.{AreFirstSetsOf};
 ghost use Rattle.lalrpop_grammar.specs.first.FirstNumbers.{HasBitsBelow};
 ghost use Rattle.lalrpop_grammar.specs.first.FirstUses.{uses_at};
-ghost use Rattle.lalrpop_grammar.specs.first.FirstTurns.{IsAdded, IsQueued, IsTurn};
+ghost use Rattle.lalrpop_grammar.specs.first.FirstTurns.{IsProductionAdded, Enqueues, IsTurn};
 
 use super::names::Names;
 use super::numbered::{NumberedProduction, number_productions};
@@ -89,7 +89,7 @@ fn add_production(
 ) -> Result<bool, OutOfMemory>
     requires bits { HasBitsBelow (length terminals.now) production.now.symbols }
     requires named { production.now.name < length sets.old.items }
-    ensures { IfOk result (λ grew. IsAdded (length terminals.now) production.now grew
+    ensures { IfOk result (λ grew. IsProductionAdded (length terminals.now) production.now grew
         sets.old.items sets.new.items) }
 {
     let given = given_by(alloc, sets, terminals, production.symbols.as_slice())?;
@@ -100,7 +100,7 @@ fn add_production(
 // Queues those of the numbers that do not wait yet.
 fn queue_all(numbers: &[usize], queue: &mut Queue) -> Result<(), OutOfMemory>
     requires { (k : ℕ) → Contains numbers.now k → k < queue.old.limit }
-    ensures { OnOk result (IsQueued numbers.now queue.old queue.new) }
+    ensures { OnOk result (Enqueues numbers.now queue.old queue.new) }
 {
     for number in numbers {
         queue.add(*number)?;

@@ -23,14 +23,14 @@ impl Model for Names {
     ghost use Rattle.std.specs.Prelude.{◌≡◌, List};
     ghost use Rattle.std.specs.Map.{keys_of};
     ghost use Rattle.lalrpop_grammar.specs.declared.repr.NonterminalString.{NonterminalString};
-    ghost use Rattle.lalrpop_grammar.specs.first.FirstNumbers.{numbers_from};
+    ghost use Rattle.lalrpop_grammar.specs.first.FirstNumbers.{numbered_names};
 
     ghost Value = { List NonterminalString };
 
     ghost view = { λ names. keys_of names.numbers.entries };
 
     ghost invariant = { λ names.
-        names.numbers.entries ≡ numbers_from 0 (keys_of names.numbers.entries) };
+        names.numbers.entries ≡ numbered_names 0 (keys_of names.numbers.entries) };
 }
 
 impl Names {

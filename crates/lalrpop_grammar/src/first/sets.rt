@@ -65,8 +65,8 @@ fn join_name(
     set: &mut TokenSet,
 ) -> Result<bool, OutOfMemory>
     requires { has set.old (length terminals.now) ≡ false }
-    ensures { IfOk result (λ told. IsSetJoined told (length terminals.now) (set_at sets.now name)
-        set.old set.new) }
+    ensures { IfOk result (λ nullable. IsSetJoined nullable (length terminals.now)
+        (set_at sets.now name) set.old set.new) }
 {
     match sets.get(name) {
         Some(found) => join_set(found, terminals, set),

@@ -2,7 +2,7 @@
 ghost use Rattle.std.specs.Prelude.{◌≡◌, ◌↔◌, ℕ, true, false, [], IfOk, length};
 ghost use Rattle.lalrpop_collections.specs.lists.Bits.{has};
 ghost use Rattle.lalrpop_grammar.specs.grammars.WellFormed.{HasKnownTerminals};
-ghost use Rattle.lalrpop_grammar.specs.first.FirstTables.{Gives, IsSetJoined, is_in, set_of};
+ghost use Rattle.lalrpop_grammar.specs.first.FirstTables.{IsFirstBit, IsSetJoined, is_in, first_set_of};
 
 use crate::lookahead::token_set::TokenSet;
 use crate::repr::terminals::TerminalSet;
@@ -23,7 +23,7 @@ pub(super) fn first_by(
 ) -> Result<TokenSet, OutOfMemory>
     requires { HasKnownTerminals terminals.now symbols.now }
     ensures { IfOk result (λ set. (bit : ℕ) →
-        (has set bit ≡ true) ↔ Gives terminals.now table.now.entries symbols.now bit) }
+        (has set bit ≡ true) ↔ IsFirstBit terminals.now table.now.entries symbols.now bit) }
 {
     let mut set = TokenSet::new(alloc, terminals);
     for symbol in symbols {
@@ -53,8 +53,8 @@ fn join_name(
     set: &mut TokenSet,
 ) -> Result<bool, OutOfMemory>
     requires { has set.old (length terminals.now) ≡ false }
-    ensures { IfOk result (λ told. IsSetJoined told (length terminals.now)
-        (set_of table.now.entries name.now) set.old set.new) }
+    ensures { IfOk result (λ nullable. IsSetJoined nullable (length terminals.now)
+        (first_set_of table.now.entries name.now) set.old set.new) }
 {
     match table.get(name) {
         Some(found) => join_set(found, terminals, set),
@@ -70,7 +70,7 @@ pub(super) fn join_set(
 ) -> Result<bool, OutOfMemory>
     requires { has set.old (length terminals.now) ≡ false }
     ensures { IfOk result
-        (λ told. IsSetJoined told (length terminals.now) found.now set.old set.new) }
+        (λ nullable. IsSetJoined nullable (length terminals.now) found.now set.old set.new) }
 {
     set.union_with(found)?;
     Ok(set.take_eof(terminals))

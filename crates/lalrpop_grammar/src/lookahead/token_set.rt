@@ -8,7 +8,7 @@ ghost use Rattle.std.specs.Hash as fed;
 ghost use Rattle.std.proofs.Common.{rules};
 ghost use lib.Pointwise.{pointwise};
 ghost use Rattle.lalrpop_collections.specs.lists.Bits.{no_bits, has, rising, with_bit, join, bits_exact};
-ghost use Rattle.lalrpop_collections.specs.lists.BitVectors.{IsBitVector, bits_of_words, folded, words_of};
+ghost use Rattle.lalrpop_collections.specs.lists.BitVectors.{IsBitVector, bits_of_words, folded, bit_words};
 
 use lalrpop_collections::bit_vector::bit_iter::BitIter;
 use lalrpop_collections::bit_vector::word_changes::{
@@ -260,7 +260,7 @@ impl PartialOrd for TokenSet {
 }
 
 impl Hash for TokenSet {
-    ghost hash_input = { λ s. fed.u64 (folded (words_of (rising s))) };
+    ghost hash_input = { λ s. fed.u64 (folded (bit_words (rising s))) };
 
     ghost respects_eq = { Prim.search (hashing, rules) };
 

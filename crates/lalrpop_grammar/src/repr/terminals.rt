@@ -22,13 +22,13 @@ pub struct TerminalSet {
 impl Model for TerminalSet {
     ghost use Rattle.std.specs.Prelude.{List, length};
     ghost use Rattle.lalrpop_grammar.specs.declared.repr.TerminalString.{TerminalString};
-    ghost use Rattle.lalrpop_grammar.specs.grammars.TerminalPlaces.{ArePlaced};
+    ghost use Rattle.lalrpop_grammar.specs.grammars.TerminalPlaces.{AreTerminalPlaces};
 
     ghost Value = { List TerminalString };
 
     ghost view = { λ s. s.all.items };
 
-    ghost invariant = { λ s. ArePlaced s.all.items s.places };
+    ghost invariant = { λ s. AreTerminalPlaces s.all.items s.places };
 }
 
 /// Why a list of terminals makes no set. `Repeated` has the first terminal that is also at an

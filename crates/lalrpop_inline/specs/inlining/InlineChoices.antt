@@ -29,13 +29,13 @@ abbrev pub parts : NonterminalString → List Production → Symbol → List Inl
 parts b alternatives x = cond (is_named b x) (map inlined alternatives) (Original x ∷ [])
 
 -- the given list followed by each of the lists
-abbrev pub behind : List InlinedSymbol → List (List InlinedSymbol) → List (List InlinedSymbol)
-behind chosen cs = map (λ (c : List InlinedSymbol). chosen ++ c) cs
+abbrev pub prefixed : List InlinedSymbol → List (List InlinedSymbol) → List (List InlinedSymbol)
+prefixed chosen cs = map (λ (c : List InlinedSymbol). chosen ++ c) cs
 
 -- one list for each choice of a part in the place of each symbol; the leftmost place varies slowest
 abbrev pub choices : NonterminalString → List Production → List Symbol → List (List InlinedSymbol)
 choices b alternatives [] = [] ∷ []
-choices b alternatives (x ∷ rest) = flat_map (λ (part : InlinedSymbol). behind (part ∷ []) (choices b alternatives rest)) (parts b alternatives x)
+choices b alternatives (x ∷ rest) = flat_map (λ (part : InlinedSymbol). prefixed (part ∷ []) (choices b alternatives rest)) (parts b alternatives x)
 
 -- the list followed by each of the parts, in turn
 abbrev pub followed : List InlinedSymbol → List InlinedSymbol → List (List InlinedSymbol)
@@ -47,7 +47,7 @@ extended parts fronts = flat_map (λ (front : List InlinedSymbol). followed fron
 
 -- each list followed by each of the others; the first varies slowest
 abbrev pub completed : List (List InlinedSymbol) → List (List InlinedSymbol) → List (List InlinedSymbol)
-completed fronts cs = flat_map (λ (front : List InlinedSymbol). behind front cs) fronts
+completed fronts cs = flat_map (λ (front : List InlinedSymbol). prefixed front cs) fronts
 
 -- the symbols of a part
 abbrev pub part_symbols : InlinedSymbol → List Symbol

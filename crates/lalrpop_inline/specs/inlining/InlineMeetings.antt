@@ -91,8 +91,8 @@ ComesBackFrom g rest (f ∷ older) left b =
 
 -- a walk from the first frames comes back to each nonterminal to which one from the second ones
 -- does
-abbrev pub LeadsBack : Grammar → List Frame → List NonterminalString → List Frame → List NonterminalString → Type 0
-LeadsBack g fs left gs after = (rest : List NonterminalString) (b : NonterminalString) → ComesBackFrom g rest gs after b → ComesBackFrom g rest fs left b
+abbrev pub ComesBackToAllOf : Grammar → List Frame → List NonterminalString → List Frame → List NonterminalString → Type 0
+ComesBackToAllOf g fs left gs after = (rest : List NonterminalString) (b : NonterminalString) → ComesBackFrom g rest gs after b → ComesBackFrom g rest fs left b
 
 -- there is one new frame, which is of the nonterminal and has all that this one mentions
 abbrev pub IsNewest : Grammar → NonterminalString → List Frame → List Frame → Type 0

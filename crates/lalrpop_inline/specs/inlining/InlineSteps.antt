@@ -18,6 +18,7 @@ use Rattle.lalrpop_grammar.specs.declared.repr.grammar.Attribute.{Attribute}
 use Rattle.lalrpop_grammar.specs.declared.repr.grammar.NonterminalData.{NonterminalData}
 use Rattle.lalrpop_grammar.specs.declared.repr.grammar.Grammar.{Grammar}
 use Rattle.lalrpop_inline.specs.inlining.InlineChoices.{mentions, choices, laid_out}
+use Rattle.lalrpop_grammar.specs.grammars.Entries.{Entry}
 
 -- whether a definition says that its action can fail; false if there is none
 abbrev pub fallible_of : Option ActionFnDefn → Bool
@@ -79,41 +80,35 @@ abbrev pub replaced_all : NonterminalString → List Production → List Product
 replaced_all b alternatives [] defns = made_of [] defns
 replaced_all b alternatives (p ∷ ps) defns = in_front (replaced b alternatives p defns).productions (replaced_all b alternatives ps (replaced b alternatives p defns).defns)
 
--- the entry of a name
-pub record Entry : Type 0 where
-  pub productions : List Production
-  pub attributes : List Attribute
-  pub span : Span
-
 -- the entries by name, and the definitions of all actions
 pub record View : Type 0 where
   pub entries : List (NonterminalString × Entry)
   pub defns : List ActionFnDefn
 
 -- a name with its entry, without what inlining does not read
-abbrev pub entry_view : NonterminalString × NonterminalData → NonterminalString × Entry
-entry_view e = (e.0, record { productions = e.1.productions.items; attributes = e.1.attributes.items; span = e.1.span })
+abbrev pub named_entry : NonterminalString × NonterminalData → NonterminalString × Entry
+named_entry e = (e.0, record { productions = e.1.productions.items; attributes = e.1.attributes.items; span = e.1.span })
 
 -- the entries and definitions, without what inlining does not read
 abbrev pub view_with : List (NonterminalString × NonterminalData) → List ActionFnDefn → View
-view_with entries defns = record { entries = map entry_view entries; defns = defns }
+view_with entries defns = record { entries = map named_entry entries; defns = defns }
 
 -- the view of a grammar
 abbrev pub view_of : Grammar → View
 view_of g = view_with g.nonterminals.entries g.action_fn_defns.items
 
 -- the productions of an entry, none if there is no entry
-abbrev pub listed : Option Entry → List Production
-listed None = []
-listed (Some entry) = entry.productions
+abbrev pub productions_of_entry : Option Entry → List Production
+productions_of_entry None = []
+productions_of_entry (Some entry) = entry.productions
 
 -- the alternatives of a name, none if it has no entry
 abbrev pub alternatives_in : View → NonterminalString → List Production
-alternatives_in v name = listed (lookup (is_at (name_cmp name)) v.entries)
+alternatives_in v name = productions_of_entry (lookup (is_at (name_cmp name)) v.entries)
 
 -- all productions, name by name
-abbrev pub productions_in : View → List Production
-productions_in v = flat_map (λ (e : NonterminalString × Entry). e.1.productions) v.entries
+abbrev pub productions_of_view : View → List Production
+productions_of_view v = flat_map (λ (e : NonterminalString × Entry). e.1.productions) v.entries
 
 -- the entry with other productions
 abbrev pub entry_with : NonterminalString × Entry → List Production → NonterminalString × Entry

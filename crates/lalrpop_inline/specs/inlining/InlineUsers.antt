@@ -8,24 +8,16 @@ use Rattle.lalrpop_grammar.specs.declared.repr.Production.{Production}
 use Rattle.lalrpop_grammar.specs.declared.repr.grammar.ActionFnDefn.{ActionFnDefn}
 use Rattle.lalrpop_grammar.specs.declared.repr.grammar.Grammar.{Grammar}
 use Rattle.lalrpop_inline.specs.inlining.InlineOrder.{IsMarked, Mentions}
-use Rattle.lalrpop_inline.specs.inlining.InlineSteps.{Entry, View, entry_with, entry_in_front, replaced_all}
-
--- the names of a set, none if there is no set
-abbrev pub listed_names : Option (BTreeSet NonterminalString) → List NonterminalString
-listed_names None = []
-listed_names (Some set) = set.keys
-
--- the users that the map has under a name
-abbrev pub users_at : List (NonterminalString × BTreeSet NonterminalString) → NonterminalString → List NonterminalString
-users_at users c = listed_names (collection_at name_cmp users c)
+use Rattle.lalrpop_inline.specs.inlining.InlineSteps.{View, entry_with, entry_in_front, replaced_all}
+use Rattle.lalrpop_grammar.specs.grammars.Entries.{users_at, listed_names, Entry}
 
 -- the right map has all users of the left one under the same names
 abbrev pub KeepsUsers : List (NonterminalString × BTreeSet NonterminalString) → List (NonterminalString × BTreeSet NonterminalString) → Type 0
 KeepsUsers old new = (c a : NonterminalString) → Contains (users_at old c) a → Contains (users_at new c) a
 
 -- the map has under each marked nonterminal all nonterminals that mention it
-abbrev pub HasUsers : Grammar → List (NonterminalString × BTreeSet NonterminalString) → Type 0
-HasUsers g users = (a c : NonterminalString) → IsMarked g c → Mentions g a c → Contains (users_at users c) a
+abbrev pub HasUsersOfMarked : Grammar → List (NonterminalString × BTreeSet NonterminalString) → Type 0
+HasUsersOfMarked g users = (a c : NonterminalString) → IsMarked g c → Mentions g a c → Contains (users_at users c) a
 
 -- the entries with the productions of the first one replaced
 abbrev pub first_replaced : NonterminalString → List Production → NonterminalString × Entry → List (NonterminalString × Entry) → List ActionFnDefn → View

@@ -15,13 +15,13 @@ use Rattle.lalrpop_inline.specs.declared.inline.graph.depth_first.Walk.{Walk}
 use Rattle.lalrpop_inline.specs.inlining.InlineOrder.{IsMarked, Mentions, Leads}
 
 -- the nonterminal that a symbol is, if it is one
-abbrev pub names_of : Symbol → List NonterminalString
-names_of (Nonterminal a) = a ∷ []
-names_of (Terminal t) = []
+abbrev pub nonterminal_names : Symbol → List NonterminalString
+nonterminal_names (Nonterminal a) = a ∷ []
+nonterminal_names (Terminal t) = []
 
 -- the nonterminals that productions mention, once for each mention
 abbrev pub mentioned_in : List Production → List NonterminalString
-mentioned_in productions = flat_map (λ (p : Production). flat_map names_of p.symbols) productions
+mentioned_in productions = flat_map (λ (p : Production). flat_map nonterminal_names p.symbols) productions
 
 -- each marked nonterminal is pending, visited or left, and only one of these. Each one that was
 -- left has the marked ones that it mentions before it

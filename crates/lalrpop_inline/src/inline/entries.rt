@@ -4,9 +4,10 @@ ghost use Rattle.std.specs.BTreeMap.{IsOrdered};
 ghost use Rattle.std.specs.List.Sorted.{IsStrictlySortedBy};
 ghost use Rattle.lalrpop_base.specs.Words.{name_cmp};
 ghost use Rattle.lalrpop_grammar.specs.declared.repr.NonterminalString.{NonterminalString};
-ghost use Rattle.lalrpop_inline.specs.inlining.InlineSteps.{replaced_all, entry_view, view_with, view_of, IsEntryReplaced, inlined_of};
+ghost use Rattle.lalrpop_inline.specs.inlining.InlineSteps.{replaced_all, named_entry, view_with, view_of, IsEntryReplaced, inlined_of};
 ghost use Rattle.lalrpop_inline.specs.inlining.InlineOrder.{Mentions};
-ghost use Rattle.lalrpop_inline.specs.inlining.InlineUsers.{users_at, replaced_at, replaced_places};
+ghost use Rattle.lalrpop_inline.specs.inlining.InlineUsers.{replaced_at, replaced_places};
+ghost use Rattle.lalrpop_grammar.specs.grammars.Entries.{users_at};
 ghost use Rattle.lalrpop_inline.specs.inlining.InlineRefusals.{IsPastLast};
 
 use super::replace::replace_all;
@@ -63,10 +64,10 @@ fn replace_at(
 ) -> NormResult<()>
     ensures ok { OnOk result (view_with nonterminals.new.entries defns.new.items ≡ replaced_at
         name.now alternatives.now place.now
-        (map entry_view nonterminals.old.entries) defns.old.items) }
+        (map named_entry nonterminals.old.entries) defns.old.items) }
     ensures err { IfErr result (λ e. IsPastLast (length (replaced_at
         name.now alternatives.now place.now
-        (map entry_view nonterminals.old.entries) defns.old.items).defns) e) }
+        (map named_entry nonterminals.old.entries) defns.old.items).defns) e) }
 {
     if let Some(entry) = nonterminals.get_mut(place) {
         replace_entry(alloc, name, alternatives, entry, defns)?;

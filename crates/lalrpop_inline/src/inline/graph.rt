@@ -3,7 +3,6 @@
 mod depth_first;
 
 ghost use Rattle.std.specs.Prelude.{◌≡◌, ◌↔◌, true, IsTrue, IfOk, OnOk, IfErr, Contains};
-ghost use Rattle.std.specs.BTreeMap.{IsOrdered};
 ghost use Rattle.std.specs.BTreeSet.{contains};
 ghost use Rattle.lalrpop_base.specs.Words.{name_cmp, inline_mark};
 ghost use Rattle.lalrpop_grammar.specs.declared.repr.NonterminalString.{NonterminalString};
@@ -43,7 +42,6 @@ fn marked(alloc: Global, grammar: &Grammar) -> Result<Vec<NonterminalString>, Ou
         (λ names. (a : NonterminalString) → Contains names.items a ↔ IsMarked grammar.now a) }
     ensures among { IfOk result
         (λ names. AreMarkedAmong grammar.now.nonterminals.entries names.items) }
-    ensures ordered { OnOk result (IsOrdered name_cmp grammar.now.nonterminals) }
 {
     let mut names = Vec::new(alloc);
     for (name, entry) in grammar.nonterminals.iter() {
@@ -69,10 +67,12 @@ fn set_of(
     Ok(set)
 }
 
-/// The marked nonterminals in an order to inline them. The errors are those of `inline_order`.
-pub fn ordered(alloc: Global, grammar: &Grammar) -> NormResult<Vec<NonterminalString>>
+/// The marked nonterminals in an order to inline them: each after the marked ones that it mentions.
+/// A depth first walk visits them in the order of their names, and those that one mentions from the
+/// last mention to the first. If the walk comes back to a nonterminal that it is in, the error is
+/// `Cycle` and names that one. The error is `Memory` if an allocation fails.
+pub fn inline_order(alloc: Global, grammar: &Grammar) -> NormResult<Vec<NonterminalString>>
     ensures order { IfOk result (λ order. IsInlineOrder grammar.now order.items) }
-    ensures rising { OnOk result (IsOrdered name_cmp grammar.now.nonterminals) }
     ensures acyclic { OnOk result ((a : NonterminalString) → IsOnRing grammar.now a → ⊥) }
     ensures refused { IfErr result (IsCycleOf grammar.now) }
     ensures met { IfErr result (NamesBy (IsComeBackTo grammar.now)) }

@@ -4,7 +4,8 @@ ghost use Rattle.lalrpop_grammar.specs.declared.repr.NonterminalString.{Nontermi
 ghost use Rattle.lalrpop_grammar.specs.declared.repr.Symbol.TheVariants.{Nonterminal};
 ghost use Rattle.lalrpop_grammar.specs.declared.repr.Production.{Production};
 ghost use Rattle.lalrpop_inline.specs.inlining.InlineOrder.{IsMarked};
-ghost use Rattle.lalrpop_inline.specs.inlining.InlineUsers.{users_at, KeepsUsers, HasUsers};
+ghost use Rattle.lalrpop_inline.specs.inlining.InlineUsers.{KeepsUsers, HasUsersOfMarked};
+ghost use Rattle.lalrpop_grammar.specs.grammars.Entries.{users_at};
 
 use super::graph::is_marked;
 use lalrpop_base::collections::Set;
@@ -91,7 +92,7 @@ fn add_to_mentioned(
 /// For each marked nonterminal, the nonterminals that mention it. The error is `OutOfMemory` if an
 /// allocation fails.
 pub fn users_of(alloc: Global, grammar: &Grammar) -> Result<Users, OutOfMemory>
-    ensures { IfOk result (HasUsers grammar.now) }
+    ensures { IfOk result (HasUsersOfMarked grammar.now) }
 {
     let mut users = Multimap::new(alloc);
     for (name, entry) in grammar.nonterminals.iter() {

@@ -9,12 +9,12 @@ use Rattle.lalrpop_follow_sets.specs.follow_sets.FollowWalks.{FindsLookaheads}
 use Rattle.lalrpop_construction.specs.states.SamePlaces.{places_in}
 use Rattle.lalrpop_construction.specs.states.NumberedStates.{AreReducedNumbers, IsNumberedState}
 use Rattle.lalrpop_numbers.specs.declared.numbers.Numbers.{Numbers}
-use Rattle.lalrpop_follow_sets.specs.declared.follow_sets.found.Found.{Found}
+use Rattle.lalrpop_follow_sets.specs.declared.follow_sets.sets.FollowSets.{FollowSets}
 use Rattle.lalrpop_construction.specs.declared.construction.numbered_state.NumberedState.{NumberedState}
 
 -- the pass found the lookahead sets of the states, by the numbers of the grammar, and the state by
 -- number is that of the state at the place
-pub record IsFoundAt (g : Rules) (start : NonterminalString) (states : List (State Bits)) (n : ℕ) (found : Found) (state : NumberedState) : Type 0 where
+pub record IsFoundAt (g : Rules) (start : NonterminalString) (states : List (State Bits)) (n : ℕ) (found : FollowSets) (state : NumberedState) : Type 0 where
   pub numbers : Numbers
   pub of_grammar : AreNumbers g numbers
   pub finds : FindsLookaheads g start numbers (places_in states) (length states) found

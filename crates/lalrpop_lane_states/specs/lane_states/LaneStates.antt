@@ -11,7 +11,7 @@ use Rattle.lalrpop_base.specs.Words.{ReducesFinished, AreFaithful, IsBitOf, IsLA
 use Rattle.lalrpop_construction.specs.Words.{lr0_of}
 use Rattle.lalrpop_lanes.specs.Words.{AreDisjoint, IsApplied}
 use Rattle.lalrpop_construction.specs.Words.{AreLr0States}
-use Rattle.lalrpop_base.specs.Words.{HaveNoConflict}
+use Rattle.lalrpop_base.specs.Words.{AreAllConflictFree}
 use Rattle.lalrpop_states.specs.contracts.lr1_core.state.ActionOrd.TheImpl as action_ord
 use Rattle.lalrpop_states.specs.declared.lookahead.nil.Nil.{Nil}
 use Rattle.lalrpop_grammar.specs.declared.lookahead.token.Token.{Token}
@@ -111,7 +111,7 @@ IsResolvedAt g start states n new = (state : State Bits) → slice_get new n ≡
 pub record AreLaneTables (g : Rules) (start : NonterminalString) (states : List (State Bits)) : Type 0 where
   pub made : AreLaneStates g start states
   pub holds : HoldLaneTokens g.productions start (contents g.terminals states)
-  pub free : HaveNoConflict g.terminals states
+  pub free : AreAllConflictFree g.terminals states
 
 -- one of the states has two actions that share a token; the states before it are resolved, and the
 -- reductions of this state and of those after it hold all tokens
@@ -147,7 +147,7 @@ pub record IsAttempted (actions : List CodeAction) (table : LaneTable) (old new 
 
 -- the state at the index became another one with the same place and the same items, and no other
 -- state changed
-pub record IsStep (index : ℕ) (old new : List (State Bits)) : Type 0 where
+pub record IsStateStep (index : ℕ) (old new : List (State Bits)) : Type 0 where
   pub before : State Bits
   pub after : State Bits
   pub was : slice_get old index ≡ Some before

@@ -2,7 +2,7 @@
 -- share a token (Pager 1977).
 use Rattle.std.specs.Prelude.{◌≡◌, ◌≤◌, ◌<◌, ◌+◌, ℕ, false, List, length}
 use Rattle.std.specs.List.{flat_map}
-use Rattle.lalrpop_base.specs.Words.{AreClosed, AreCoherent, Bits, contents, IfConflicts, ReducesFinished, Rules, state_conflicts, HaveNoConflict}
+use Rattle.lalrpop_base.specs.Words.{AreClosed, AreCoherent, Bits, contents, IfConflicts, ReducesFinished, Rules, state_conflicts, AreAllConflictFree}
 use Rattle.lalrpop_states.specs.declared.lr1_core.state.BuildError.{BuildError}
 use Rattle.lalrpop_states.specs.declared.lr1_core.state.Conflict.{Conflict}
 use Rattle.lalrpop_states.specs.declared.lr1_core.state.State.{State}
@@ -33,13 +33,13 @@ pub record AreClosedTables (g : Rules) (start : NonterminalString) (states : Lis
 pub record AreCopiedTables (g : Rules) (start : NonterminalString) (copies : ℕ) (states : List (State Bits)) : Type 0 where
   pub made : AreLr0Copies g start copies states
   pub closed : AreClosedTables g start states
-  pub free : HaveNoConflict g.terminals states
+  pub free : AreAllConflictFree g.terminals states
 
 -- there are such states, and one of them has a conflict
 pub record HaveCopiedConflict (g : Rules) (start : NonterminalString) (copies : ℕ) : Type 0 where
   pub states : List (State Bits)
   pub made : AreLr0Copies g start copies states
-  pub some : ¬ HaveNoConflict g.terminals states
+  pub some : ¬ AreAllConflictFree g.terminals states
 
 -- the states are such, and the conflicts are those of each state, in the order of the states; there
 -- is one

@@ -45,7 +45,7 @@ HasSameReductions old new n = (before after : State Bits) → slice_get old n �
 -- a state was resolved or not. If it was, no two of its reductions by different productions share a
 -- token. All other states kept their reductions, and so did this one if it was not resolved. No
 -- state was lost
-pub record IsTried (index : ℕ) (resolved : Bool) (old new : List (State Bits)) : Type 0 where
+pub record IsResolveStep (index : ℕ) (resolved : Bool) (old new : List (State Bits)) : Type 0 where
   pub apart : resolved ≡ true → IsApartAt new index
   pub kept : (n : ℕ) → (resolved ≡ true → n ≡ index → ⊥) → HasSameReductions old new n
   pub longer : length old ≤ length new

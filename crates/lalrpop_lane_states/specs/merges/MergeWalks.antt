@@ -2,7 +2,7 @@
 use Rattle.std.specs.Prelude.{◌≡◌, ◌≤◌, ◌⊎◌, ◌+◌, ◌*◌, ℕ, List, length, map, slice_get, Some, Contains}
 use Rattle.lalrpop_states.specs.declared.lr1_core.state.StateIndex.{StateIndex}
 use Rattle.lalrpop_lanes.specs.lane_tables.LaneTables.{IsSuccessor}
-use Rattle.lalrpop_lane_states.specs.merges.Merges.{Advances, IsJoinedCopy, IsLedTo, IsVisited, IsWalked, LeadsTo, unvisited}
+use Rattle.lalrpop_lane_states.specs.merges.Merges.{Advances, IsJoinedCopy, IsRedirected, IsVisited, HasOriginalRow, OriginalLeadsTo, unvisited}
 use Rattle.lalrpop_state_graph.specs.graphs.Copies.{index}
 use Rattle.lalrpop_lane_states.specs.declared.lane_table.construct.merge.Merge.{Merge}
 use Rattle.lalrpop_lane_states.specs.declared.lane_table.construct.merge.walk.Join.{Join}
@@ -18,13 +18,13 @@ joins_to state successors = map (join_to state) successors
 -- the state of a join is a state of the list and a copy of a state with a row, and the table leads
 -- from its original to the successor
 pub record IsJoin (merge : Merge) (join : Join) : Type 0 where
-  pub walked : IsWalked merge join.state
-  pub leads : LeadsTo merge join.state join.successor
+  pub walked : HasOriginalRow merge join.state
+  pub leads : OriginalLeadsTo merge join.state join.successor
 
 -- the join was made: the state was joined to a copy of the successor, and the walk went on from
 -- this copy. No edge of the state leads to the successor in the place of the copy
 abbrev pub IsJoinMade : Merge → Join → Type 0
-IsJoinMade merge join = (copy : StateIndex) × IsJoinedCopy join.state join.successor copy merge × IsVisited merge copy.0 × IsLedTo merge join.state join.successor copy
+IsJoinMade merge join = (copy : StateIndex) × IsJoinedCopy join.state join.successor copy merge × IsVisited merge copy.0 × IsRedirected merge join.state join.successor copy
 
 -- for each successor of the state's original, the join of the state to it was made, or is pending
 pub record HasJoinedBut (pending : List Join) (merge : Merge) (n : ℕ) : Type 0 where

@@ -17,8 +17,8 @@ use Rattle.lalrpop_lanes.specs.declared.lane_table.table.LaneTable.{LaneTable}
 use Rattle.lalrpop_state_graph.specs.graphs.Copies.{AreCopies, index}
 
 -- the new number in the place of the old one, and any other number itself
-abbrev pub replaced : ℕ → ℕ → ℕ → ℕ
-replaced old new n = cond (n == old) new n
+abbrev pub replaced_number : ℕ → ℕ → ℕ → ℕ
+replaced_number old new n = cond (n == old) new n
 
 -- ---- tokens of sets
 -- there are as many columns as the table has, no two of them share a token, and each token is in
@@ -46,7 +46,7 @@ pub record IsMerging (merge : Merge) : Type 0 where
   pub first : (n : ℕ) → n < merge.first_copy → slice_get merge.originals.items n ≡ Some n
 
 -- the state is a state of the list, and a copy of a state with a row
-pub record IsWalked (merge : Merge) (state : StateIndex) : Type 0 where
+pub record HasOriginalRow (merge : Merge) (state : StateIndex) : Type 0 where
   pub original : ℕ
   pub there : slice_get merge.originals.items state.0 ≡ Some original
   pub row : HasRow merge.table.now (index original)
@@ -103,15 +103,15 @@ pub record IsJoinedCopy (state successor copy : StateIndex) (merge : Merge) : Ty
   pub together : set_of merge.context_sets state ≡ set_of merge.context_sets copy
 
 -- no edge of the state leads to the successor, unless the state was joined to the successor itself
-abbrev pub IsLedTo : Merge → StateIndex → StateIndex → StateIndex → Type 0
-IsLedTo merge state successor copy = (copy ≡ successor → ⊥) → ¬ HasEdge merge.states.items state.0 successor.0
+abbrev pub IsRedirected : Merge → StateIndex → StateIndex → StateIndex → Type 0
+IsRedirected merge state successor copy = (copy ≡ successor → ⊥) → ¬ HasEdge merge.states.items state.0 successor.0
 
 -- for each successor of its original, the state was joined to a copy of the successor. This copy
 -- was visited, and no edge of the state leads to the successor in its place
 pub record HasJoined (merge : Merge) (n : ℕ) : Type 0 where
   pub original : ℕ
   pub there : slice_get merge.originals.items n ≡ Some original
-  pub joined : (right : StateIndex) → IsSuccessor merge.table.now (index original) right → (copy : StateIndex) × IsJoinedCopy (index n) right copy merge × IsVisited merge copy.0 × IsLedTo merge (index n) right copy
+  pub joined : (right : StateIndex) → IsSuccessor merge.table.now (index original) right → (copy : StateIndex) × IsJoinedCopy (index n) right copy merge × IsVisited merge copy.0 × IsRedirected merge (index n) right copy
 
 -- the state was visited, and each newly visited state was joined to its successors
 pub record HasWalked (state : StateIndex) (old new : Merge) : Type 0 where
@@ -130,8 +130,8 @@ pub record IsRelinked (n old new : ℕ) (before after : List (State Bits)) : Typ
   pub was : slice_get before n ≡ Some source
   pub is : slice_get after n ≡ Some target
   pub others : (k : ℕ) → (k ≡ n → ⊥) → slice_get after k ≡ slice_get before k
-  pub shifts : target.shifts.entries ≡ retargeted_all (replaced old new) source.shifts.entries
-  pub gotos : target.gotos.entries ≡ retargeted_all (replaced old new) source.gotos.entries
+  pub shifts : target.shifts.entries ≡ retargeted_all (replaced_number old new) source.shifts.entries
+  pub gotos : target.gotos.entries ≡ retargeted_all (replaced_number old new) source.gotos.entries
 
 -- the edges of the state that led to the successor lead to the copy, its other edges lead where
 -- they led, and each other state stays
@@ -141,8 +141,8 @@ pub record IsLinked (state successor copy : ℕ) (before after : List (State Bit
   pub was : slice_get before state ≡ Some source
   pub is : slice_get after state ≡ Some target
   pub others : (k : ℕ) (other : State Bits) → (k ≡ state → ⊥) → slice_get before k ≡ Some other → slice_get after k ≡ Some other
-  pub shifts : target.shifts.entries ≡ retargeted_all (replaced successor copy) source.shifts.entries
-  pub gotos : target.gotos.entries ≡ retargeted_all (replaced successor copy) source.gotos.entries
+  pub shifts : target.shifts.entries ≡ retargeted_all (replaced_number successor copy) source.shifts.entries
+  pub gotos : target.gotos.entries ≡ retargeted_all (replaced_number successor copy) source.gotos.entries
 
 -- each state stays, and there may be others after them
 abbrev pub KeepsStates : Merge → Merge → Type 0
@@ -164,8 +164,8 @@ IsJoinedIfAny state successor merge None = Unit {0}
 IsJoinedIfAny state successor merge (Some copy) = IsJoinedCopy state successor copy merge
 
 -- the table leads from the original of the state to the successor
-abbrev pub LeadsTo : Merge → StateIndex → StateIndex → Type 0
-LeadsTo merge state successor = (o : ℕ) → slice_get merge.originals.items state.0 ≡ Some o → IsSuccessor merge.table.now (index o) successor
+abbrev pub OriginalLeadsTo : Merge → StateIndex → StateIndex → Type 0
+OriginalLeadsTo merge state successor = (o : ℕ) → slice_get merge.originals.items state.0 ≡ Some o → IsSuccessor merge.table.now (index o) successor
 
 -- the right state is a successor of the left one, and a token of its row is in another column of
 -- some row
@@ -186,10 +186,10 @@ IsMergeError merge CopyLimit = (merge.copies_left ≡ 0) × ColumnsOverlap merge
 IsMergeError merge Memory = Unit {0}
 
 -- the copy limit is reported only if no copy is left
-abbrev pub IsLimit : Merge → MergeError → Type 0
-IsLimit merge (Apart left right) = Unit {0}
-IsLimit merge CopyLimit = merge.copies_left ≡ 0
-IsLimit merge Memory = Unit {0}
+abbrev pub IsCopyLimit : Merge → MergeError → Type 0
+IsCopyLimit merge (Apart left right) = Unit {0}
+IsCopyLimit merge CopyLimit = merge.copies_left ≡ 0
+IsCopyLimit merge Memory = Unit {0}
 
 -- a join is refused only if no copy of the successor can be joined; an allocation failure says
 -- nothing
@@ -223,7 +223,7 @@ pub record IsLonger (old new : Merge) : Type 0 where
 
 -- the copy has the state as its original and the tokens of the state's row in its set, and as many
 -- states as before are still to be visited or made
-pub record IsFresh (state copy : StateIndex) (old new : Merge) : Type 0 where
+pub record IsFreshCopy (state copy : StateIndex) (old new : Merge) : Type 0 where
   pub original : slice_get new.originals.items copy.0 ≡ Some state.0
   pub row : IsRow new.table.now state (context_of new.context_sets copy)
   pub unvisited_same : unvisited new ≡ unvisited old

@@ -11,7 +11,7 @@ mod states;
 mod tracing;
 
 ghost use Rattle.std.specs.Prelude.{◌≡◌, IfOk, IfErr, IfSome, IsSomeAnd, IsTrue, MatchBool, MatchOption, MatchResult};
-ghost use Rattle.lalrpop_base.specs.Words.{IsLALR1, IsOnNoRightSide, IsWellFormed, productions, rules_of, HaveNoConflict};
+ghost use Rattle.lalrpop_base.specs.Words.{IsLALR1, IsOnNoRightSide, IsWellFormed, productions, rules_of, AreAllConflictFree};
 ghost use Rattle.lalrpop_states.specs.conflicts.Failures.{TellsNotLALR1};
 ghost use Rattle.lalrpop_lane_states.specs.lane_states.LaneStates.{AreLalrLaneTables, IsReadyToConstruct};
 ghost use Rattle.lalrpop_lane_states.specs.lane_states.Lr0Copies.{AreCopiedTables, AreLr0Copies, FailsByCopies, HaveCopiedConflict};
@@ -92,7 +92,7 @@ impl<'grammar> LaneTableConstruct<'grammar> {
     /// Makes the same tables as `construct`. If there are none, it returns `None` and lists no
     /// conflict. It also returns whether one pass over the states made the tables. `OutOfMemory` if
     /// an allocation fails.
-    pub fn construct_told(
+    pub fn construct_or_none(
         &self,
         alloc: Global,
     ) -> Result<Option<(Vec<Lr1State<'grammar>>, bool)>, OutOfMemory>
@@ -100,16 +100,16 @@ impl<'grammar> LaneTableConstruct<'grammar> {
         ensures tables { IfOk result (λ answer. MatchOption answer
             (HaveCopiedConflict (rules_of self.now.grammar.now) self.now.start
             self.now.max_copies)
-            (λ told. AreCopiedTables (rules_of self.now.grammar.now) self.now.start
-            self.now.max_copies told.0.items)) }
-        ensures at_once { IfOk result (λ answer. IfSome answer (λ told. IsTrue told.1 →
+            (λ made. AreCopiedTables (rules_of self.now.grammar.now) self.now.start
+            self.now.max_copies made.0.items)) }
+        ensures at_once { IfOk result (λ answer. IfSome answer (λ made. IsTrue made.1 →
             IsOnNoRightSide (productions self.now.grammar.now) self.now.start →
-            AreLalrLaneTables (rules_of self.now.grammar.now) self.now.start told.0.items)) }
+            AreLalrLaneTables (rules_of self.now.grammar.now) self.now.start made.0.items)) }
         ensures lalr { IsOnNoRightSide (productions self.now.grammar.now) self.now.start →
             IsLALR1 (productions self.now.grammar.now) self.now.start →
             IfOk result (λ answer. IsSomeAnd answer
-            (λ told. AreLalrLaneTables (rules_of self.now.grammar.now) self.now.start
-            told.0.items)) }
+            (λ made. AreLalrLaneTables (rules_of self.now.grammar.now) self.now.start
+            made.0.items)) }
     {
         let grammar = self.grammar;
         let (states, at_once) = self.resolved(alloc)?;
@@ -126,13 +126,13 @@ impl<'grammar> LaneTableConstruct<'grammar> {
     // whether one pass over the states resolved all of them.
     fn resolved(&self, alloc: Global) -> Result<(Vec<Lr1State<'grammar>>, bool), OutOfMemory>
         requires ready { IsReadyToConstruct self.now }
-        ensures copies { IfOk result (λ told. AreLr0Copies (rules_of self.now.grammar.now)
-            self.now.start self.now.max_copies told.0.items) }
-        ensures free { IfOk result (λ told. IsTrue told.1 →
-            HaveNoConflict (rules_of self.now.grammar.now).terminals told.0.items) }
+        ensures copies { IfOk result (λ made. AreLr0Copies (rules_of self.now.grammar.now)
+            self.now.start self.now.max_copies made.0.items) }
+        ensures free { IfOk result (λ made. IsTrue made.1 →
+            AreAllConflictFree (rules_of self.now.grammar.now).terminals made.0.items) }
         ensures lalr { IsOnNoRightSide (productions self.now.grammar.now) self.now.start →
-            IfOk result (λ told. MatchBool told.1
-            (AreLalrLaneTables (rules_of self.now.grammar.now) self.now.start told.0.items)
+            IfOk result (λ made. MatchBool made.1
+            (AreLalrLaneTables (rules_of self.now.grammar.now) self.now.start made.0.items)
             (¬ IsLALR1 (productions self.now.grammar.now) self.now.start)) }
     {
         let grammar = self.grammar;

@@ -40,9 +40,9 @@ abbrev pub row_at : Rows → StateIndex → Option (List Bits)
 row_at rows state = lookup (is_at (state_cmp state)) rows
 
 -- the columns are the row, if there is one, else they are empty columns of that count
-abbrev pub StandsFor : ℕ → Option (List Bits) → List Bits → Type 0
-StandsFor count None columns = (length columns ≡ count) × ((k : ℕ) (column : Bits) → slice_get columns k ≡ Some column → column ≡ no_bits)
-StandsFor count (Some row) columns = columns ≡ row
+abbrev pub AreColumnsOf : ℕ → Option (List Bits) → List Bits → Type 0
+AreColumnsOf count None columns = (length columns ≡ count) × ((k : ℕ) (column : Bits) → slice_get columns k ≡ Some column → column ≡ no_bits)
+AreColumnsOf count (Some row) columns = columns ≡ row
 
 -- the rows of other states stay
 abbrev pub KeepOthers : StateIndex → Rows → Rows → Type 0
@@ -52,7 +52,7 @@ KeepOthers state old new = (q : StateIndex) → is_eq (state_cmp state q) ≡ fa
 pub record MakesRow (count : ℕ) (state : StateIndex) (old new : Rows) : Type 0 where
   pub row : List Bits
   pub there : row_at new state ≡ Some row
-  pub was : StandsFor count (row_at old state) row
+  pub was : AreColumnsOf count (row_at old state) row
   pub others : KeepOthers state old new
 
 -- the tokens were joined to a column of the row of a state, which may be a new row, and no other
@@ -60,7 +60,7 @@ pub record MakesRow (count : ℕ) (state : StateIndex) (old new : Rows) : Type 0
 pub record JoinsRow (count : ℕ) (state : StateIndex) (index : ℕ) (tokens : Bits) (old new : Rows) : Type 0 where
   pub before : List Bits
   pub after : List Bits
-  pub was : StandsFor count (row_at old state) before
+  pub was : AreColumnsOf count (row_at old state) before
   pub there : row_at new state ≡ Some after
   pub joined : IsJoinedIn index tokens before after
   pub apart : ¬ MeetsOther before index tokens
@@ -69,7 +69,7 @@ pub record JoinsRow (count : ℕ) (state : StateIndex) (index : ℕ) (tokens : B
 -- another column of the row of a state shares a token with the tokens
 pub record MeetsRow (count : ℕ) (state : StateIndex) (index : ℕ) (tokens : Bits) (rows : Rows) : Type 0 where
   pub row : List Bits
-  pub was : StandsFor count (row_at rows state) row
+  pub was : AreColumnsOf count (row_at rows state) row
   pub meets : MeetsOther row index tokens
 
 -- a state has a cell
@@ -78,7 +78,7 @@ HasCells cells state = (k : ℕ) × ((set : Bits) × Contains cells ((state, col
 
 -- the rows are those of the states with cells, with the tokens of these cells
 pub record AreRowsOf (count : ℕ) (cells : Cells) (rows : Rows) : Type 0 where
-  pub each : (state : StateIndex) (row : List Bits) → StandsFor count (row_at rows state) row → (length row ≡ count) × AreGathered (ThisRow state) cells row
+  pub each : (state : StateIndex) (row : List Bits) → AreColumnsOf count (row_at rows state) row → (length row ≡ count) × AreGathered (ThisRow state) cells row
   pub has : (state : StateIndex) (row : List Bits) → row_at rows state ≡ Some row → HasCells cells state
   pub all : (state : StateIndex) → HasCells cells state → (row : List Bits) × (row_at rows state ≡ Some row)
 
@@ -87,14 +87,14 @@ abbrev pub Successors : Type 0
 Successors = List (StateIndex × SortedSet StateIndex)
 
 -- the state has a successor
-abbrev pub HasNext : Successors → StateIndex → StateIndex → Type 0
-HasNext successors left right = (set : SortedSet StateIndex) × Contains successors (left, set) × Contains set.keys right
+abbrev pub HasSuccessor : Successors → StateIndex → StateIndex → Type 0
+HasSuccessor successors left right = (set : SortedSet StateIndex) × Contains successors (left, set) × Contains set.keys right
 
 -- each state with a successor has a row now, which is empty if it is new; the other rows stay
 pub record AddsRows (count : ℕ) (successors : Successors) (old new : Rows) : Type 0 where
   pub kept : (state : StateIndex) (row : List Bits) → row_at old state ≡ Some row → row_at new state ≡ Some row
-  pub from : (state : StateIndex) (row : List Bits) → row_at new state ≡ Some row → StandsFor count (row_at old state) row × ((row_at old state ≡ Some row) ⊎ ((right : StateIndex) × HasNext successors state right))
-  pub all : (left right : StateIndex) → HasNext successors left right → (row : List Bits) × (row_at new left ≡ Some row)
+  pub from : (state : StateIndex) (row : List Bits) → row_at new state ≡ Some row → AreColumnsOf count (row_at old state) row × ((row_at old state ≡ Some row) ⊎ ((right : StateIndex) × HasSuccessor successors state right))
+  pub all : (left right : StateIndex) → HasSuccessor successors left right → (row : List Bits) × (row_at new left ≡ Some row)
 
 -- the state of the error is the first one in whose row two columns share a token
 abbrev pub IsFirstOverlap : LaneTable → RowsError → Type 0

@@ -13,18 +13,18 @@ use Rattle.lalrpop_lanes.specs.lane_tables.LaneTables.{HasCell, HasBit, IsSucces
 use Rattle.lalrpop_lanes.specs.lanes.LaneTraces.{HaveOwnItems}
 use Rattle.lalrpop_construction.specs.states.SamePlaces.{places_in}
 use Rattle.lalrpop_state_graph.specs.graphs.StateGraph.{edges, IsGraphOf}
-use Rattle.lalrpop_lanes.specs.declared.lane_table.lane.ground.Ground.{Ground}
+use Rattle.lalrpop_lanes.specs.declared.lane_table.lane.automaton.Automaton.{Automaton}
 use Rattle.lalrpop_collections.specs.declared.collections.walk.Walk.{Walk}
 use Rattle.lalrpop_lanes.specs.declared.lane_table.table.LaneTable.{LaneTable}
 use Rattle.lalrpop_states.specs.declared.lr1_core.place.Place.{Place}
 
 -- the grammar is well-formed, the items are of its productions, and the FIRST sets and the graph
 -- are those of the grammar and the states
-pub record IsGround {L : Type 0} (ground : Ground L) : Type 0 where
-  pub well_formed : IsWellFormed ground.grammar.now
-  pub own : HaveOwnItems (productions ground.grammar.now) ground.states.now
-  pub firsts : ground.first_sets.now ≡ rules_of ground.grammar.now
-  pub graph : IsGraphOf (edges ground.states.now) ground.state_graph.now
+pub record IsAutomaton {L : Type 0} (automaton : Automaton L) : Type 0 where
+  pub well_formed : IsWellFormed automaton.grammar.now
+  pub own : HaveOwnItems (productions automaton.grammar.now) automaton.states.now
+  pub firsts : automaton.first_sets.now ≡ rules_of automaton.grammar.now
+  pub graph : IsGraphOf (edges automaton.states.now) automaton.state_graph.now
 
 -- a table got exactly such cells and tokens in one column, and exactly such successors, by the
 -- numbers of the states, and kept its old ones
@@ -74,8 +74,8 @@ abbrev pub IsParent : {L : Type 0} → NonterminalString → Dotted L → Type 0
 IsParent name item = slice_get item.production.symbols item.index ≡ Some (Nonterminal name)
 
 -- the symbols after the one after the item's dot
-abbrev pub rest_of : {L : Type 0} → Dotted L → List Symbol
-rest_of item = drop (item.index + 1) item.production.symbols
+abbrev pub symbols_after_next : {L : Type 0} → Dotted L → List Symbol
+symbols_after_next item = drop (item.index + 1) item.production.symbols
 
 -- the place is that of an item in a state, and the condition is true
 pub record IsPlaceIf {L : Type 0} (go : Bool) (state : ℕ) (item : Dotted L) (k : Place) : Type 0 where
@@ -88,13 +88,13 @@ module _ (g : Rules) {L : Type 0} (name : NonterminalString) where
     pub parent : IsParent name item
     pub terminal : TerminalString
     pub number : slice_get g.terminals bit ≡ Some terminal
-    pub first : IsFirst g.productions (rest_of item) terminal
+    pub first : IsFirst g.productions (symbols_after_next item) terminal
 
   -- the nonterminal is after the item's dot, the symbols after it are nullable, and the place is
   -- that of the item in the state
   pub record IsPassedOn (state : ℕ) (item : Dotted L) (k : Place) : Type 0 where
     pub parent : IsParent name item
-    pub nullable : IsNullable g.productions (rest_of item)
+    pub nullable : IsNullable g.productions (symbols_after_next item)
     pub is : at_place state item.production item.index ≡ k
 
 -- one of the items is of this kind
@@ -128,22 +128,22 @@ module _ (g : Rules) (start : NonterminalString) (states : ℕ → Contents) (pl
     pub behind : drop index place.item.production.symbols ≡ symbol ∷ after
 
   -- the places to which a place leads back
-  abbrev pub LeadsTo : Place → Type 0
-  LeadsTo k = LeadsBack g.productions states place.state place.item.production place.item.index k.state k.item.production k.item.index
+  abbrev pub LeadsBackTo : Place → Type 0
+  LeadsBackTo k = LeadsBack g.productions states place.state place.item.production place.item.index k.state k.item.production k.item.index
 
 -- ---- the contribution of a place, over the data of a trace
-module _ {L : Type 0} (ground : Ground L) (place : Place) where
+module _ {L : Type 0} (automaton : Automaton L) (place : Place) where
   -- the table got exactly the contribution of the place, in one column
   abbrev pub GainsOf : ℕ → LaneTable → LaneTable → Type 0
-  GainsOf k = Gains k (GivesCell (rules_of ground.grammar.now) ground.start.now (places_in ground.states.now) place) (GivesBit (rules_of ground.grammar.now) ground.start.now (places_in ground.states.now) place) (GivesSuccessor (rules_of ground.grammar.now) ground.start.now (places_in ground.states.now) place)
+  GainsOf k = Gains k (GivesCell (rules_of automaton.grammar.now) automaton.start.now (places_in automaton.states.now) place) (GivesBit (rules_of automaton.grammar.now) automaton.start.now (places_in automaton.states.now) place) (GivesSuccessor (rules_of automaton.grammar.now) automaton.start.now (places_in automaton.states.now) place)
 
   -- the table got a part of the contribution of the place, in one column
   abbrev pub GainsSomeOf : ℕ → LaneTable → LaneTable → Type 0
-  GainsSomeOf k = GainsSome k (GivesCell (rules_of ground.grammar.now) ground.start.now (places_in ground.states.now) place) (GivesBit (rules_of ground.grammar.now) ground.start.now (places_in ground.states.now) place) (GivesSuccessor (rules_of ground.grammar.now) ground.start.now (places_in ground.states.now) place)
+  GainsSomeOf k = GainsSome k (GivesCell (rules_of automaton.grammar.now) automaton.start.now (places_in automaton.states.now) place) (GivesBit (rules_of automaton.grammar.now) automaton.start.now (places_in automaton.states.now) place) (GivesSuccessor (rules_of automaton.grammar.now) automaton.start.now (places_in automaton.states.now) place)
 
   -- the walk visited all places to which the place leads back
   abbrev pub VisitsOf : Walk Place → Walk Place → Type 0
-  VisitsOf = Visits (LeadsTo (rules_of ground.grammar.now) ground.start.now (places_in ground.states.now) place)
+  VisitsOf = Visits (LeadsBackTo (rules_of automaton.grammar.now) automaton.start.now (places_in automaton.states.now) place)
 
   -- the place adds nothing more: the table has its contribution, in one column, and the walk has
   -- visited all places to which it leads back
@@ -153,27 +153,27 @@ module _ {L : Type 0} (ground : Ground L) (place : Place) where
 
 -- each place adds nothing more if its dot is at the start and these pairs contain its state and its
 -- nonterminal
-abbrev pub AreExpanded : {L : Type 0} → Ground L → ℕ → LaneTable → Walk Place → List (ℕ × NonterminalString) → Type 0
-AreExpanded ground k table walk expanded = (place : Place) → place.item.index ≡ 0 → Contains expanded (place.state, place.item.production.nonterminal) → AddsNothing ground place k table walk
+abbrev pub AreExpanded : {L : Type 0} → Automaton L → ℕ → LaneTable → Walk Place → List (ℕ × NonterminalString) → Type 0
+AreExpanded automaton k table walk expanded = (place : Place) → place.item.index ≡ 0 → Contains expanded (place.state, place.item.production.nonterminal) → AddsNothing automaton place k table walk
 
 -- ---- the contributions of all places to which a place leads back, itself among them
-module _ {L : Type 0} (ground : Ground L) (first : Place) where
-  abbrev pub IsReached : Place → Type 0
-  IsReached p = IsTracedTo (productions ground.grammar.now) (places_in ground.states.now) first.state first.item.production first.item.index p.state p.item.production p.item.index
+module _ {L : Type 0} (automaton : Automaton L) (first : Place) where
+  abbrev pub IsTracedFrom : Place → Type 0
+  IsTracedFrom p = IsTracedTo (productions automaton.grammar.now) (places_in automaton.states.now) first.state first.item.production first.item.index p.state p.item.production p.item.index
 
   -- one of these places is of this kind
-  abbrev pub Reaches : (Place → Type 0) → Type 0
-  Reaches P = (p : Place) × IsReached p × P p
+  abbrev pub TracesTo : (Place → Type 0) → Type 0
+  TracesTo P = (p : Place) × IsTracedFrom p × P p
 
   abbrev pub GainsAll : ℕ → LaneTable → LaneTable → Type 0
-  GainsAll k = Gains k (λ row. Reaches (λ p. GivesCell (rules_of ground.grammar.now) ground.start.now (places_in ground.states.now) p row)) (λ row bit. Reaches (λ p. GivesBit (rules_of ground.grammar.now) ground.start.now (places_in ground.states.now) p row bit)) (λ l r. Reaches (λ p. GivesSuccessor (rules_of ground.grammar.now) ground.start.now (places_in ground.states.now) p l r))
+  GainsAll k = Gains k (λ row. TracesTo (λ p. GivesCell (rules_of automaton.grammar.now) automaton.start.now (places_in automaton.states.now) p row)) (λ row bit. TracesTo (λ p. GivesBit (rules_of automaton.grammar.now) automaton.start.now (places_in automaton.states.now) p row bit)) (λ l r. TracesTo (λ p. GivesSuccessor (rules_of automaton.grammar.now) automaton.start.now (places_in automaton.states.now) p l r))
 
   -- the table got a part of these contributions, in one column
   abbrev pub GainsSomeOfAll : ℕ → LaneTable → LaneTable → Type 0
-  GainsSomeOfAll k = GainsSome k (λ row. Reaches (λ p. GivesCell (rules_of ground.grammar.now) ground.start.now (places_in ground.states.now) p row)) (λ row bit. Reaches (λ p. GivesBit (rules_of ground.grammar.now) ground.start.now (places_in ground.states.now) p row bit)) (λ l r. Reaches (λ p. GivesSuccessor (rules_of ground.grammar.now) ground.start.now (places_in ground.states.now) p l r))
+  GainsSomeOfAll k = GainsSome k (λ row. TracesTo (λ p. GivesCell (rules_of automaton.grammar.now) automaton.start.now (places_in automaton.states.now) p row)) (λ row bit. TracesTo (λ p. GivesBit (rules_of automaton.grammar.now) automaton.start.now (places_in automaton.states.now) p row bit)) (λ l r. TracesTo (λ p. GivesSuccessor (rules_of automaton.grammar.now) automaton.start.now (places_in automaton.states.now) p l r))
 
   -- the place is the end of a production of the grammar, in a state of the list
   pub record IsEndPlace : Type 0 where
-    pub own : Contains (productions ground.grammar.now) first.item.production
+    pub own : Contains (productions automaton.grammar.now) first.item.production
     pub end : first.item.index ≡ length first.item.production.symbols
-    pub listed : first.state < length ground.states.now
+    pub listed : first.state < length automaton.states.now

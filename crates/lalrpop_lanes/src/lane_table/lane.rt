@@ -1,6 +1,6 @@
 //! Traces actions back over the states, into a lane table.
+mod automaton;
 mod expanded;
-mod ground;
 mod trace_back;
 mod unepsilon;
 mod unshift;
@@ -12,7 +12,7 @@ ghost use Rattle.lalrpop_lanes.specs.lanes.LaneTraces.{HaveOwnItems, IsReadyToTr
 ghost use Rattle.lalrpop_construction.specs.states.SamePlaces.{places_in};
 ghost use Rattle.lalrpop_state_graph.specs.graphs.StateGraph.{edges, IsGraphOf};
 
-use self::ground::Ground;
+use self::automaton::Automaton;
 use self::trace_back::take_lane;
 use super::context_set::ConflictIndex;
 use super::table::LaneTable;
@@ -104,14 +104,21 @@ impl<'trace, 'grammar, L> LaneTracer<'trace, 'grammar, L> {
                 Ok(())
             }
             Action::Reduce(production) => {
-                let ground = Ground {
+                let automaton = Automaton {
                     grammar: self.grammar,
                     start: &self.start,
                     states: self.states,
                     first_sets: self.first_sets,
                     state_graph: self.state_graph,
                 };
-                take_lane(alloc, &ground, state, production, conflict, &mut self.table)?;
+                take_lane(
+                    alloc,
+                    &automaton,
+                    state,
+                    production,
+                    conflict,
+                    &mut self.table,
+                )?;
                 Ok(())
             }
         }

@@ -221,12 +221,12 @@ fn is_same_state(a: &Lr1State<'_>, b: &Lr1State<'_>) -> bool {
 // Whether a state has two reductions, by A on the tokens `of_a` and by B on the tokens `of_b`.
 fn took_columns(state: &Lr1State<'_>, of_a: &TokenSet, of_b: &TokenSet) -> bool {
     for (tokens, production) in &state.reductions {
-        let owed = if production.nonterminal.text.as_str() == "A" {
+        let expected = if production.nonterminal.text.as_str() == "A" {
             of_a
         } else {
             of_b
         };
-        if tokens != owed {
+        if tokens != expected {
             return false;
         }
     }

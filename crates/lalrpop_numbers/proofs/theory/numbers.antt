@@ -2,4 +2,4 @@
 pub mod DottedProductions
 pub mod Numbering
 pub mod ProductionPlaces
-pub mod Rests
+pub mod Suffixes

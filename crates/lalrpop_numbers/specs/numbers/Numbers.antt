@@ -16,7 +16,7 @@ use Rattle.lalrpop_grammar.specs.declared.repr.Symbol.{Symbol}
 use Rattle.lalrpop_grammar.specs.declared.repr.Symbol.TheVariants.{Nonterminal, Terminal}
 use Rattle.lalrpop_grammar.specs.contracts.repr.SymbolOrd.TheImpl as symbol_ord
 use Rattle.lalrpop_states.specs.grammars.Ascending.{Ascend}
-use Rattle.lalrpop_numbers.specs.numbers.Rests.{AreRests}
+use Rattle.lalrpop_numbers.specs.numbers.Suffixes.{AreSuffixes}
 use Rattle.lalrpop_states.specs.construction.Transitions.{Groups, IsBehindOne, shifted}
 use Rattle.lalrpop_numbers.specs.declared.numbers.numbered.Numbered.{Numbered}
 use Rattle.lalrpop_numbers.specs.declared.numbers.Numbers.{Numbers}
@@ -59,23 +59,21 @@ AreExpansions items s numbers = (k : ℕ) → Contains numbers k ↔ ((i : Dotte
 pub record AreNumbers (g : Rules) (n : Numbers) : Type 0 where
   pub items : AreItemsOf g n.items.items
   pub next : MovesToNext n.items.items
-  pub counted : length n.behind.items ≡ length n.items.items
   pub behind : (k : ℕ) (i : Dotted Nil) (x : Option ℕ) → slice_get n.items.items k ≡ Some i → slice_get n.behind.items k ≡ Some x → IsNumberBehind n.symbols.items i x
   pub differ : AllDiffer n.symbols.items
   pub symbols : AreBehindDots n.items.items n.symbols.items
   pub symbols_ascend : SymbolsAscend n.symbols.items
-  pub expanded : length n.expansions.items ≡ length n.symbols.items
   pub expansions : (x : ℕ) (s : Symbol) (numbers : List ℕ) → slice_get n.symbols.items x ≡ Some s → slice_get (map (λ v. v.items) n.expansions.items) x ≡ Some numbers → AreExpansions n.items.items s numbers
-  pub rests : AreRests g n.items.items n.rests.items
+  pub suffixes : AreSuffixes g n.items.items n.suffixes.items
 
 -- ---- items by number
 -- the production without a name or symbols, which `dotted_at` returns if no item has the number
-abbrev pub nothing : Dotted Nil
-nothing = record { production = record { nonterminal = record { text = [] }; symbols = []; action = record { 0 = 0 }; span = record { 0 = 0; 1 = 0 } }; index = 0; lookahead = record {} }
+abbrev pub empty_item : Dotted Nil
+empty_item = record { production = record { nonterminal = record { text = [] }; symbols = []; action = record { 0 = 0 }; span = record { 0 = 0; 1 = 0 } }; index = 0; lookahead = record {} }
 
 -- the dotted production with the number
 abbrev pub dotted_at : List (Dotted Nil) → ℕ → Dotted Nil
-dotted_at [] n = nothing
+dotted_at [] n = empty_item
 dotted_at (i ∷ is) zero = i
 dotted_at (i ∷ is) (suc n) = dotted_at is n
 

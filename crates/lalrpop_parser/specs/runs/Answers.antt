@@ -18,9 +18,9 @@ IsFailure R states LimitPassed = R Limit
 IsFailure R states Memory = Unit {0}
 
 -- the result reports the outcome: a tree, or an error
-abbrev pub IsAnswer : {L : Type 0} → (Outcome → Type 0) → List (State L) → Result ParseTree (InterpretError L) → Type 0
-IsAnswer R states (Ok tree) = R (Parsed (tree_of tree))
-IsAnswer R states (Err e) = IsFailure R states e
+abbrev pub ReportsOutcome : {L : Type 0} → (Outcome → Type 0) → List (State L) → Result ParseTree (InterpretError L) → Type 0
+ReportsOutcome R states (Ok tree) = R (Parsed (tree_of tree))
+ReportsOutcome R states (Err e) = IsFailure R states e
 
 -- the result reports the outcome of a run up to the last terminal: a stack of states, or an error
 abbrev pub IsPartialAnswer : {A L : Type 0} → (PartialOutcome → Type 0) → List (State L) → Result (Vec StateIndex A) (InterpretError L) → Type 0

@@ -9,7 +9,7 @@ use Rattle.lalrpop_states.specs.declared.lr1_core.state.State.{State}
 use Rattle.lalrpop_grammar.specs.declared.repr.NonterminalString.{NonterminalString}
 use Rattle.lalrpop_grammar.specs.declared.repr.Production.{Production}
 use Rattle.lalrpop_grammar.specs.declared.repr.TerminalString.{TerminalString}
-use Rattle.lalrpop_parser.specs.runs.Answers.{IsAnswer}
+use Rattle.lalrpop_parser.specs.runs.Answers.{ReportsOutcome}
 use Rattle.lalrpop_parser.specs.declared.interpret.error.InterpretError.{InterpretError}
 use Rattle.lalrpop_parser.specs.declared.interpret.error.InterpretError.TheVariants.{Refused, Limit, Memory}
 use Rattle.lalrpop_parser.specs.declared.interpret.tree.ParseTree.{ParseTree}
@@ -67,7 +67,7 @@ IsOutcomeFor t limit CutOff = limit < nodes (beside t no_trees)
 abbrev pub AnswersTrees : {L : Type 0} → ℕ → List TerminalString → List (State L) → Result ParseTree (InterpretError L) →
     List Production → NonterminalString → Type 0
 AnswersTrees limit w states answer g start =
-    (t : Tree) → IsParseTree g start w t → IsAnswer (IsOutcomeFor t limit) states answer
+    (t : Tree) → IsParseTree g start w t → ReportsOutcome (IsOutcomeFor t limit) states answer
 
 -- a refusal is by a state of the list and at a token for which the property holds
 abbrev pub IfRefused : {L : Type 0} → (ℕ → Token → Type 0) → List (State L) → InterpretError L → Type 0

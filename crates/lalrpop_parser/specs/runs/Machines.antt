@@ -30,7 +30,7 @@ abbrev pub configuration : Machine → List TerminalString → Configuration
 configuration m rest = record { state = m.state.0; below = numbers m.below.items; trees = trees_on m.trees.items; rest = rest }
 
 -- the machine is at its start: in state 0, without trees
-pub record IsAtStart (m : Machine) : Type 0 where
+pub record IsInitialMachine (m : Machine) : Type 0 where
   pub state : m.state.0 ≡ 0
   pub below : m.below.items ≡ []
   pub trees : m.trees.items ≡ []

@@ -3,8 +3,8 @@ ghost use Rattle.std.specs.Prelude.{◌≡◌, ◌+◌, ◌<◌, ◌≤◌, ℕ,
 ghost use Rattle.lalrpop_base.specs.Words.{AreCoherent, contents_in, received, reduced, Goes, Ends, HasOutcome, IsTerminal, Tree, Leaf};
 ghost use Rattle.lalrpop_grammar.specs.declared.repr.TerminalString.{TerminalString};
 ghost use Rattle.lalrpop_grammar.specs.declared.lookahead.token.Token.{Token};
-ghost use Rattle.lalrpop_parser.specs.runs.Answers.{IsAnswer, IsFailure};
-ghost use Rattle.lalrpop_parser.specs.runs.Machines.{numbers, trees_on, configuration, CanPop, IsAtStart, IsStacked, IsProgress, IsHalted, IsSpent, IsShifted, HasRead, shift_on};
+ghost use Rattle.lalrpop_parser.specs.runs.Answers.{ReportsOutcome, IsFailure};
+ghost use Rattle.lalrpop_parser.specs.runs.Machines.{numbers, trees_on, configuration, CanPop, IsInitialMachine, IsStacked, IsProgress, IsHalted, IsSpent, IsShifted, HasRead, shift_on};
 ghost use Rattle.lalrpop_parser.specs.trees.ParseTrees.{tree_of};
 ghost use Rattle.lalrpop_parser.specs.runs.Reading.{StopsReading};
 ghost use Rattle.lalrpop_parser.specs.runs.Steps.{HasOutcomeFrom};
@@ -40,7 +40,7 @@ pub(crate) enum Progress {
 
 impl Machine {
     pub(crate) fn new(alloc: Global, limit: usize) -> Machine
-        ensures start { IsAtStart result }
+        ensures start { IsInitialMachine result }
         ensures left { result.left ≡ limit }
     {
         Machine {
@@ -214,8 +214,8 @@ impl Machine {
     ) -> Result<ParseTree, InterpretError<'a, 'grammar, L>>
         requires coherent { AreCoherent states.now }
         requires some { 0 < length states.now }
-        requires start { IsAtStart self }
-        ensures { IsAnswer
+        requires start { IsInitialMachine self }
+        ensures { ReportsOutcome
             (HasOutcome (contents_in (L.holds terminals.now) states.now) tokens.items self.left)
             states.now result }
     {
@@ -256,7 +256,7 @@ impl Machine {
         requires coherent { AreCoherent states.now }
         requires some { 0 < length states.now }
         requires stacked { IsStacked (contents_in (L.holds terminals.now) states.now) self }
-        ensures { IsAnswer (HasOutcomeFrom (contents_in (L.holds terminals.now) states.now)
+        ensures { ReportsOutcome (HasOutcomeFrom (contents_in (L.holds terminals.now) states.now)
             (configuration self []) self.left) states.now result }
     {
         'reducing: loop {

@@ -27,17 +27,17 @@ without e os = filter (is_other e.symbol e.source) os
 
 -- the origins of state n after an edge is moved from the state with the number `before`, to which
 -- it led, to its target
-abbrev pub moved : ℕ → Edge → ℕ → List Origin → List Origin
-moved before e n os = cond (before == n) (without e os) os ++ cond (e.target.0 == n) (origin_of e ∷ []) []
+abbrev pub origins_moved : ℕ → Edge → ℕ → List Origin → List Origin
+origins_moved before e n os = cond (before == n) (without e os) os ++ cond (e.target.0 == n) (origin_of e ∷ []) []
 
 -- the origins of state n after an edge is moved to its target, if the target is a copy
-abbrev pub followed : List ℕ → Edge → ℕ → List Origin → List Origin
-followed originals e n os = cond (number_in originals e.target.0 == e.target.0) os (moved (number_in originals e.target.0) e n os)
+abbrev pub origins_after_move : List ℕ → Edge → ℕ → List Origin → List Origin
+origins_after_move originals e n os = cond (number_in originals e.target.0 == e.target.0) os (origins_moved (number_in originals e.target.0) e n os)
 
 -- the origins of state n after the edges are moved to their targets, one after the other
 abbrev pub followed_all : List ℕ → List Edge → ℕ → List Origin → List Origin
 followed_all originals [] n os = os
-followed_all originals (e ∷ es) n os = followed_all originals es n (followed originals e n os)
+followed_all originals (e ∷ es) n os = followed_all originals es n (origins_after_move originals e n os)
 
 -- the targets of the edges were added after the others of their sources;
 -- edges to copies were moved from the originals

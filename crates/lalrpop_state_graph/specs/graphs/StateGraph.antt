@@ -55,8 +55,8 @@ pub data LeadsTo (es : List Edge) : StateIndex → List Symbol → StateIndex �
   over : {r m s : StateIndex} {x : Symbol} {symbols : List Symbol} → Contains es (edge r x m) → LeadsTo es m symbols s → LeadsTo es r (x ∷ symbols) s
 
 -- the target of an edge
-abbrev pub target_of : Edge → StateIndex
-target_of e = e.target
+abbrev pub edge_target : Edge → StateIndex
+edge_target e = e.target
 
 -- the symbol and source of an edge
 abbrev pub origin_of : Edge → Symbol × StateIndex
@@ -64,7 +64,7 @@ origin_of e = (e.symbol, e.source)
 
 -- the targets of the edges from a state
 abbrev pub targets_from : StateIndex → List Edge → List StateIndex
-targets_from n es = map target_of (filter (λ (e : Edge). e.source.0 == n.0) es)
+targets_from n es = map edge_target (filter (λ (e : Edge). e.source.0 == n.0) es)
 
 -- the symbols and sources of the edges to a state
 abbrev pub origins : StateIndex → List Edge → List (Symbol × StateIndex)

@@ -52,7 +52,7 @@ pub record Sends (Such : Place → Type 0) (tokens : Bits) (old new : Carried) (
   pub weighed : (n : ℕ) → IsBelow n tokens → AllBelow n old → burden n old + length pushed ≤ burden n new + length queue
 
 -- the place is in the state, and is one of the productions with the dot at the start
-pub record IsBegunAt (n : ℕ) (ps : List Production) (k : Place) : Type 0 where
+pub record IsPlaceAtStart (n : ℕ) (ps : List Production) (k : Place) : Type 0 where
   pub state : k.state ≡ n
   pub start : k.item.index ≡ 0
   pub among : Contains ps k.item.production
@@ -70,11 +70,11 @@ pub record IsOver (states : List (State Bits)) (place k : Place) : Type 0 where
 pub record IsInto (g : Grammar) (place k : Place) : Type 0 where
   pub name : NonterminalString
   pub behind : slice_get place.item.production.symbols place.item.index ≡ Some (Nonterminal name)
-  pub begun : IsBegunAt place.state (productions_of g name) k
+  pub begun : IsPlaceAtStart place.state (productions_of g name) k
 
 -- a place gives its own tokens over the edge of the symbol after its dot;
 -- it gives FIRST of the symbols after the nonterminal to the productions of that nonterminal
-pub record Gives (g : Grammar) (states : List (State Bits)) (place : Place) (old new : Carried) (queue pushed : List Place) : Type 0 where
+pub record CarriesFromPlace (g : Grammar) (states : List (State Bits)) (place : Place) (old new : Carried) (queue pushed : List Place) : Type 0 where
   pub tokens : Bits
   pub entry : Contains old (place, tokens)
   pub middle : Carried
@@ -99,16 +99,16 @@ AreCarriedTo g start states table = (e : Place × Bits) → Contains table e →
 
 -- the production has an entry in the state, with the dot at the start and all tokens that it gets;
 -- these are FIRST of the symbols after it, and the given tokens if those symbols are nullable
-pub record HasBegun (g : Grammar) (table : Carried) (n : ℕ) (q : Production) (after : List Symbol) (tokens : Bits) : Type 0 where
+pub record HasPropagatedIn (g : Grammar) (table : Carried) (n : ℕ) (q : Production) (after : List Symbol) (tokens : Bits) : Type 0 where
   pub set : Bits
   pub entry : Contains table (at_place n q 0, set)
   pub begins : (t : Token) → Begins (rules_of g) after t → holds_token g.terminals set t ≡ true
   pub inherits : IsNullable (productions g) after → (t : Token) → holds_token g.terminals tokens t ≡ true → holds_token g.terminals set t ≡ true
 
 -- each place to which a place with these tokens leads has the tokens that it gets
-pub record IsSettled (g : Grammar) (states : List (State Bits)) (table : Carried) (place : Place) (tokens : Bits) : Type 0 where
+pub record IsClosedAt (g : Grammar) (states : List (State Bits)) (table : Carried) (place : Place) (tokens : Bits) : Type 0 where
   pub over : (k : Place) → IsOver states place k → IsFound table k tokens
-  pub into : (q : Production) (after : List Symbol) → drop place.item.index place.item.production.symbols ≡ Nonterminal q.nonterminal ∷ after → Contains (productions g) q → HasBegun g table place.state q after tokens
+  pub into : (q : Production) (after : List Symbol) → drop place.item.index place.item.production.symbols ≡ Nonterminal q.nonterminal ∷ after → Contains (productions g) q → HasPropagatedIn g table place.state q after tokens
 
 -- the productions of the start symbol, with the dot at the start in state 0, hold Eof
 abbrev pub HasStarted : Grammar → NonterminalString → Carried → Type 0
@@ -118,13 +118,13 @@ HasStarted g start table = (p : Production) → Contains (productions g) p → p
 pub record AreCarried (g : Grammar) (start : NonterminalString) (states : List (State Bits)) (table : Carried) : Type 0 where
   pub sound : AreCarriedTo g start states table
   pub started : HasStarted g start table
-  pub settled : (e : Place × Bits) → Contains table e → IsSettled g states table e.0 e.1
+  pub settled : (e : Place × Bits) → Contains table e → IsClosedAt g states table e.0 e.1
   pub differ : AllDiffer (keys_of table)
 
 -- the reduction holds all tokens that the table has for its finished item in the state
-abbrev pub HoldsCarried : Carried → ℕ → Bits × Bor Production → Type 0
-HoldsCarried table n r = (set : Bits) → Contains table (at_place n r.1.now (length r.1.now.symbols), set) → (bit : ℕ) → has set bit ≡ true → has r.0 bit ≡ true
+abbrev pub HoldsTableTokens : Carried → ℕ → Bits × Bor Production → Type 0
+HoldsTableTokens table n r = (set : Bits) → Contains table (at_place n r.1.now (length r.1.now.symbols), set) → (bit : ℕ) → has set bit ≡ true → has r.0 bit ≡ true
 
 -- each reduction of each state holds all tokens that the table has for its finished item
-abbrev pub AllHoldCarried : Carried → List (State Bits) → Type 0
-AllHoldCarried table states = (n : ℕ) (s : State Bits) → slice_get states n ≡ Some s → EachItem (HoldsCarried table n) s.reductions.items
+abbrev pub AllHoldTableTokens : Carried → List (State Bits) → Type 0
+AllHoldTableTokens table states = (n : ℕ) (s : State Bits) → slice_get states n ≡ Some s → EachItem (HoldsTableTokens table n) s.reductions.items

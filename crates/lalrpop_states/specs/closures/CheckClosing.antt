@@ -13,7 +13,7 @@ use Rattle.lalrpop_grammar.specs.declared.repr.grammar.Grammar.{Grammar}
 use Rattle.lalrpop_states.specs.closures.Closure.{dotted_of}
 
 -- the item has one of the productions, with the dot at the start
-pub record IsBegun (ps : List Production) (k : Dotted Nil) : Type 0 where
+pub record IsOneAtStart (ps : List Production) (k : Dotted Nil) : Type 0 where
   pub start : k.index ≡ 0
   pub among : Contains ps k.production
 
@@ -22,7 +22,7 @@ pub record IsBegun (ps : List Production) (k : Dotted Nil) : Type 0 where
 pub record IsExpansionOf (g : Grammar) (item k : Dotted Nil) : Type 0 where
   pub name : NonterminalString
   pub behind : slice_get item.production.symbols item.index ≡ Some (Nonterminal name)
-  pub begun : IsBegun (productions_of g name) k
+  pub begun : IsOneAtStart (productions_of g name) k
 
 -- the dotted production is among the listed ones, and its dot is past the start
 abbrev pub IsMovedIn : List (Production × ℕ) → Production → ℕ → Type 0

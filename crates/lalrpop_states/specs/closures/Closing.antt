@@ -13,7 +13,7 @@ use Rattle.lalrpop_grammar.specs.declared.repr.Production.{Production}
 use Rattle.lalrpop_grammar.specs.declared.repr.grammar.Grammar.{Grammar}
 use Rattle.lalrpop_grammar.specs.declared.repr.Symbol.{Symbol}
 use Rattle.lalrpop_grammar.specs.declared.repr.Symbol.TheVariants.{Nonterminal}
-use Rattle.lalrpop_states.specs.closures.Closure.{Found, dotted_of, InKernel, HasItemToken, InTokenClosureBy}
+use Rattle.lalrpop_states.specs.closures.Closure.{ClosureTable, dotted_of, InKernel, HasItemToken, InTokenClosureBy}
 use Rattle.lalrpop_collections.specs.lists.Entries.{IsFound}
 
 -- the token is a terminal in FIRST of the symbols
@@ -31,7 +31,7 @@ AreOwn g = (p : Production) → Contains (productions g) p → Contains (product
 module _ (begins : Rules → List Symbol → Token → Type 0) (passes : Rules → List Symbol → Type 0) where
   -- the table has the production with the dot at the start and all tokens that it gets from an item
   -- with these tokens
-  pub record HasGiven (g : Rules) (table : Found) (tokens : Bits) (q : Production) (after : List Symbol) : Type 0 where
+  pub record HasPropagated (g : Rules) (table : ClosureTable) (tokens : Bits) (q : Production) (after : List Symbol) : Type 0 where
     pub key : Dotted Nil
     pub production : key.production ≡ q
     pub start : key.index ≡ 0
@@ -41,13 +41,13 @@ module _ (begins : Rules → List Symbol → Token → Type 0) (passes : Rules �
     pub through : (t : Token) → passes g after → holds_token g.terminals tokens t ≡ true → holds_token g.terminals set t ≡ true
 
   -- the table has each production of the nonterminal after the dot, with all tokens that it gets
-  abbrev pub IsTokenSettled : Rules → Found → Dotted Nil → Bits → Type 0
-  IsTokenSettled g table k tokens = (q : Production) (after : List Symbol) → drop k.index k.production.symbols ≡ Nonterminal q.nonterminal ∷ after → Contains g.productions q → HasGiven g table tokens q after
+  abbrev pub IsTokenClosedAt : Rules → ClosureTable → Dotted Nil → Bits → Type 0
+  IsTokenClosedAt g table k tokens = (q : Production) (after : List Symbol) → drop k.index k.production.symbols ≡ Nonterminal q.nonterminal ∷ after → Contains g.productions q → HasPropagated g table tokens q after
 
   -- the table has the kernel, and its entries and tokens belong to the closure of the kernel;
   -- the table also has each production to which an entry leads, with all tokens that it gets
-  pub record IsTokenClosed (g : Rules) (kernel : List (Dotted Bits)) (table : Found) : Type 0 where
+  pub record IsTokenClosed (g : Rules) (kernel : List (Dotted Bits)) (table : ClosureTable) : Type 0 where
     pub all : (i : Dotted Bits) → Contains kernel i → (k : Dotted Nil) × (dotted_of k ≡ dotted_of i) × IsFound table k i.lookahead
     pub keys : (e : Dotted Nil × Bits) → Contains table e → InClosure g.productions (InKernel kernel) e.0.production e.0.index
     pub tokens : (e : Dotted Nil × Bits) (t : Token) → Contains table e → holds_token g.terminals e.1 t ≡ true → InTokenClosureBy (begins g) (passes g) g.productions (InClosure g.productions (InKernel kernel)) (HasItemToken g.terminals kernel) e.0.production e.0.index t
-    pub settled : (e : Dotted Nil × Bits) → Contains table e → IsTokenSettled g table e.0 e.1
+    pub settled : (e : Dotted Nil × Bits) → Contains table e → IsTokenClosedAt g table e.0 e.1

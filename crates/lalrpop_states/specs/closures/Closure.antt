@@ -93,13 +93,13 @@ pub record IsClosureBy {L : Type 0} (meaning : L → Bits) (begins : Rules → L
 
 -- ---- tables of a closure
 -- a table of dotted productions, each with the bits of its tokens
-abbrev pub Found : Type 0
-Found = List (Dotted Nil × Bits)
+abbrev pub ClosureTable : Type 0
+ClosureTable = List (Dotted Nil × Bits)
 
 -- the item with a dotted production and a lookahead
 abbrev pub item_of : {L : Type 0} → Dotted Nil × L → Dotted L
 item_of e = record { production = e.0.production; index = e.0.index; lookahead = e.1 }
 
 -- the production with the dot at the start
-abbrev pub begun_of : Production → Dotted Nil
-begun_of p = record { production = p; index = 0; lookahead = record {} }
+abbrev pub lr0_at_start : Production → Dotted Nil
+lr0_at_start p = record { production = p; index = 0; lookahead = record {} }

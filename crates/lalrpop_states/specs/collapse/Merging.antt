@@ -114,7 +114,7 @@ abbrev pub HasTokensOf : List (Bits × Bor Production) → List (Bor Production 
 HasTokensOf given m = (p : Production) → AreTokensOf p given (tokens_at m p)
 
 -- the list has the entries of the map as reductions, and the productions ascend
-pub record AreListed (m : List (Bor Production × Bits)) (list : List (Bits × Bor Production)) : Type 0 where
+pub record AreReductionsOfMap (m : List (Bor Production × Bits)) (list : List (Bits × Bor Production)) : Type 0 where
   pub all : list ≡ map (λ (e : Bor Production × Bits). (e.1, e.0)) m
   pub ascend : IsStrictlySortedBy (λ (a b : Bor Production). production_order a.now b.now) (keys_of m)
 

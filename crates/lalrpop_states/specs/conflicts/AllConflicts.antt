@@ -2,7 +2,7 @@
 use Rattle.std.specs.Prelude.{◌≡◌, ◌≢◌, ℕ, ◌++◌, ◌∷◌, List, [], slice_get, Some}
 use Rattle.std.specs.List.{flat_map}
 use Rattle.lalrpop_states.specs.conflicts.Failures.{IfConflicts}
-use Rattle.lalrpop_states.specs.conflicts.StateConflicts.{state_conflicts, HasNoConflict}
+use Rattle.lalrpop_states.specs.conflicts.StateConflicts.{state_conflicts, IsConflictFree}
 use Rattle.lalrpop_collections.specs.lists.Bits.{Bits}
 use Rattle.lalrpop_states.specs.declared.lr1_core.state.BuildError.{BuildError}
 use Rattle.lalrpop_states.specs.declared.lr1_core.state.Conflict.{Conflict}
@@ -10,8 +10,8 @@ use Rattle.lalrpop_states.specs.declared.lr1_core.state.State.{State}
 use Rattle.lalrpop_grammar.specs.declared.repr.TerminalString.{TerminalString}
 
 -- no state has a conflict
-abbrev pub HaveNoConflict : List TerminalString → List (State Bits) → Type 0
-HaveNoConflict terminals states = (k : ℕ) (state : State Bits) → slice_get states k ≡ Some state → HasNoConflict terminals state
+abbrev pub AreAllConflictFree : List TerminalString → List (State Bits) → Type 0
+AreAllConflictFree terminals states = (k : ℕ) (state : State Bits) → slice_get states k ≡ Some state → IsConflictFree terminals state
 
 -- the list has the conflicts of each state, in the order of the states, and is not empty
 pub record AreAllConflicts (terminals : List TerminalString) (states : List (State Bits)) (conflicts : List (Conflict Bits)) : Type 0 where

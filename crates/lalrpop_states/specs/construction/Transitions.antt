@@ -93,14 +93,14 @@ pub record AreEdgesListed (lists : TransitionLists) (edges : Transitions) : Type
   pub gotos : IsFromIterResult name_ord.ghosts.cmp lists.gotos.items edges.gotos
 
 -- the target is the number of the kernel of the symbol
-pub record LeadsTo {L : Type 0} (groups : Groups L) (list : List (List (Dotted L))) (x : Symbol) (target : StateIndex) : Type 0 where
+pub record GroupLeadsTo {L : Type 0} (groups : Groups L) (list : List (List (Dotted L))) (x : Symbol) (target : StateIndex) : Type 0 where
   pub kernel : List (Dotted L)
   pub group : Contains groups (x, kernel)
   pub numbered : slice_get list target.0 ≡ Some kernel
 
 -- the edges lead over each symbol to the number of its kernel, and the shifts ascend
 pub record AreEdges {L : Type 0} (groups : Groups L) (list : List (List (Dotted L))) (edges : Transitions) : Type 0 where
-  pub leads : (x : Symbol) (target : StateIndex) → HasEntry (edge_entries edges) x target → LeadsTo groups list x target
+  pub leads : (x : Symbol) (target : StateIndex) → HasEntry (edge_entries edges) x target → GroupLeadsTo groups list x target
   pub all : (x : Symbol) (kernel : List (Dotted L)) → Contains groups (x, kernel) → (target : StateIndex) × HasEntry (edge_entries edges) x target
   pub ascend : ShiftsAscend edges
 

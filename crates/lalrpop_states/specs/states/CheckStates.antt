@@ -10,7 +10,7 @@ use Rattle.lalrpop_collections.specs.lists.Bits.{Bits}
 use Rattle.lalrpop_collections.specs.lists.Places.{AllDiffer}
 use Rattle.lalrpop_states.specs.states.Contents.{number_of}
 use Rattle.lalrpop_states.specs.states.Items.{Dotted, with_dot}
-use Rattle.lalrpop_states.specs.conflicts.StateConflicts.{HasNoConflict}
+use Rattle.lalrpop_states.specs.conflicts.StateConflicts.{IsConflictFree}
 use Rattle.lalrpop_grammar.specs.contracts.repr.TerminalStringOrd.TheImpl as terminal_ord
 use Rattle.lalrpop_states.specs.declared.lookahead.nil.Nil.{Nil}
 use Rattle.lalrpop_states.specs.declared.lr1_core.state.State.{State}
@@ -58,8 +58,8 @@ pub record IsListed (listed : List (BTreeSet (Dotted Nil))) (m : ℕ) (k : Dotte
   pub has : Contains set.keys k
 
 -- the productions of reductions
-abbrev pub reduced : List (Bits × Bor Production) → List Production
-reduced reductions = map (λ (r : Bits × Bor Production). r.1.now) reductions
+abbrev pub productions_of_reductions : List (Bits × Bor Production) → List Production
+productions_of_reductions reductions = map (λ (r : Bits × Bor Production). r.1.now) reductions
 
 -- the production with the dot at its end
 abbrev pub finished : Production → Dotted Nil
@@ -87,9 +87,9 @@ pub record IsRightTarget (g : Grammar) (items : List (Dotted Bits)) (here : List
 pub record IsRightState (g : Grammar) (start : NonterminalString) (listed : List (BTreeSet (Dotted Nil))) (targets : List ℕ) (n : ℕ) (here : List (Dotted Nil)) (s : State Bits) : Type 0 where
   pub first : n ≡ 0 → AreClosure g (IsAtStart (productions g) start) here
   pub target : Contains targets n → IsRightTarget g s.items.vec.items here
-  pub items : (i : Dotted Bits) → Contains s.items.vec.items i → IsRightItem listed s (reduced s.reductions.items) i
-  pub once : AllDiffer (reduced s.reductions.items)
-  pub free : HasNoConflict g.terminals s
+  pub items : (i : Dotted Bits) → Contains s.items.vec.items i → IsRightItem listed s (productions_of_reductions s.reductions.items) i
+  pub once : AllDiffer (productions_of_reductions s.reductions.items)
+  pub free : IsConflictFree g.terminals s
 
 -- each state is right
 abbrev pub AreRightStates : Grammar → NonterminalString → List (BTreeSet (Dotted Nil)) → List ℕ → List (State Bits) → Type 0

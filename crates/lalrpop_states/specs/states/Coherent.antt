@@ -11,9 +11,9 @@ use Rattle.lalrpop_states.specs.declared.lr1_core.coherent.SymbolRef.{SymbolRef}
 use Rattle.lalrpop_states.specs.declared.lr1_core.coherent.SymbolRef.TheVariants.{Nonterminal as NonterminalRef, Terminal as TerminalRef}
 
 -- the symbol that a borrowed symbol means
-abbrev pub symbol_of : SymbolRef → Symbol
-symbol_of (NonterminalRef name) = Nonterminal name.now
-symbol_of (TerminalRef t) = Terminal t.now
+abbrev pub symbol_of_ref : SymbolRef → Symbol
+symbol_of_ref (NonterminalRef name) = Nonterminal name.now
+symbol_of_ref (TerminalRef t) = Terminal t.now
 
 module _ {L : Type 0} where
   -- the item is the production with the dot at the index
@@ -26,13 +26,13 @@ module _ {L : Type 0} where
   HasItem items production index = (k : ℕ) × (item : Dotted L) × (slice_get items k ≡ Some item) × IsAt item production index
 
   -- the symbol is before the dot of the item, and the source has the item with the dot before it
-  pub record IsShifted (source : List (Dotted L)) (symbol : Symbol) (item : Dotted L) : Type 0 where
+  pub record IsShiftedFrom (source : List (Dotted L)) (symbol : Symbol) (item : Dotted L) : Type 0 where
     pub over : slice_get item.production.symbols (item.index - 1) ≡ Some symbol
     pub origin : HasItem source item.production (item.index - 1)
 
   -- each item of the target whose dot is past the start comes over the symbol from the source
   abbrev pub IsCoherentEdge : List (Dotted L) → Symbol → List (Dotted L) → Type 0
-  IsCoherentEdge source symbol target = EachItem (λ (item : Dotted L). 0 < item.index → IsShifted source symbol item) target
+  IsCoherentEdge source symbol target = EachItem (λ (item : Dotted L). 0 < item.index → IsShiftedFrom source symbol item) target
 
   -- the edge leads to a state of the list, whose moved items come over the symbol from the source
   pub record IsCoherentStep (states : List (State L)) (source : List (Dotted L)) (symbol : Symbol) (target : ℕ) : Type 0 where

@@ -26,13 +26,13 @@ pub struct SparseMap<V> {
 
 impl<V> Model for SparseMap<V> {
     ghost use Rattle.std.specs.Prelude.{List, ℕ};
-    ghost use Rattle.lalrpop_collections.specs.lists.SparseMaps.{ArePlaced};
+    ghost use Rattle.lalrpop_collections.specs.lists.SparseMaps.{AreEntryPlaces};
 
     ghost Value = { List (ℕ × V) };
 
     ghost view = { λ m. m.entries.items };
 
-    ghost invariant = { λ m. ArePlaced m.places.items m.entries.items };
+    ghost invariant = { λ m. AreEntryPlaces m.places.items m.entries.items };
 }
 
 impl<V> SparseMap<V> {
@@ -145,7 +145,7 @@ impl<L: Lookahead> SparseMap<L> {
     /// Adds tokens to those of a number. Returns whether the number is new or has more tokens than
     /// before; `OutOfMemory` if an allocation fails.
     pub fn join(&mut self, number: usize, tokens: L) -> Result<bool, OutOfMemory>
-        ensures joined { IfOk result (λ told. IsJoinedAt number (L.meaning tokens) told
+        ensures joined { IfOk result (λ changed. IsJoinedAt number (L.meaning tokens) changed
             (readings L.meaning self.old) (readings L.meaning self.new)) }
         ensures differ { OnOk result (AllDiffer (keys_of self.new)) }
     {
@@ -163,7 +163,7 @@ impl<L: Lookahead> SparseMap<L> {
         number: usize,
         tokens: &L,
     ) -> Result<bool, OutOfMemory>
-        ensures joined { IfOk result (λ told. IsJoinedAt number (L.meaning tokens.now) told
+        ensures joined { IfOk result (λ changed. IsJoinedAt number (L.meaning tokens.now) changed
             (readings L.meaning self.old) (readings L.meaning self.new)) }
         ensures differ { OnOk result (AllDiffer (keys_of self.new)) }
     {

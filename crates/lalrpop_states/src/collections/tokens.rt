@@ -1,5 +1,5 @@
 //! Maps from keys to lookaheads. Lookaheads that are added for one key are joined.
-ghost use Rattle.std.specs.Prelude.{◌≡◌, OnOk, IfOk, IsNone, IfSome, Contains, Some, option_copied};
+ghost use Rattle.std.specs.Prelude.{◌≡◌, OnOk, IfOk, Contains, Some, option_copied};
 ghost use Rattle.std.specs.BTreeMap.{keys};
 ghost use Rattle.lalrpop_collections.specs.Words.{AllDiffer, Bits};
 ghost use Rattle.lalrpop_collections.specs.lists.Entries.{IsJoinedAt, readings};
@@ -19,7 +19,7 @@ pub fn add_tokens<K: Ord + Exact + Drop, L: Lookahead>(
     key: K,
     tokens: &L,
 ) -> Result<bool, OutOfMemory>
-    ensures joined { IfOk result (λ told. IsJoinedAt key (L.meaning tokens.now) told
+    ensures joined { IfOk result (λ changed. IsJoinedAt key (L.meaning tokens.now) changed
         (readings L.meaning map.old.entries) (readings L.meaning map.new.entries)) }
     ensures differ { OnOk result (AllDiffer (keys map.new)) }
 {
@@ -28,14 +28,6 @@ pub fn add_tokens<K: Ord + Exact + Drop, L: Lookahead>(
     }
     map.insert(key, tokens.copy(alloc)?)?;
     Ok(true)
-}
-
-/// The lookahead of a key, if it has one.
-pub fn tokens_of<'map, K: Ord + Exact, L>(map: &'map BTreeMap<K, L>, key: &K) -> Option<&'map L>
-    ensures found { IfSome result (λ lookahead. Contains map.now.entries (key.now, lookahead.now)) }
-    ensures none { IsNone result → ¬ Contains (keys map.now) key.now }
-{
-    map.get(key)
 }
 
 /// The set of tokens of a key, if the map has the key.
@@ -51,5 +43,5 @@ pub fn find_tokens<'map, K: Ord + Exact>(
         Contains map.now.entries (key.now, set) →
         option_copied result ≡ Some set }
 {
-    tokens_of(map, key)
+    map.get(key)
 }

@@ -1,13 +1,13 @@
 //! The conflicts of the states of a list.
 ghost use Rattle.std.specs.Prelude.{◌≡◌, ◌<◌, ◌^◌, ◌↔◌, ℕ, IfOk, IsTrue, MatchOption, SomeIff, length};
 ghost use Rattle.std.specs.List.{flat_map};
-ghost use Rattle.lalrpop_states.specs.conflicts.StateConflicts.{HasNoConflict};
+ghost use Rattle.lalrpop_states.specs.conflicts.StateConflicts.{IsConflictFree};
 ghost use Rattle.lalrpop_collections.specs.Words.{has};
 ghost use Rattle.lalrpop_grammar.specs.Words.{HasToken};
 ghost use Rattle.lalrpop_states.specs.conflicts.StateConflicts.{state_conflicts};
 ghost use Rattle.lalrpop_grammar.specs.declared.lookahead.token.Token.TheVariants.{Terminal as TokenOf};
 ghost use Rattle.lalrpop_states.specs.conflicts.HeldShifts.{HoldsNoShift, IsHeldBit, ShareNoBit};
-ghost use Rattle.lalrpop_states.specs.conflicts.AllConflicts.{HaveNoConflict};
+ghost use Rattle.lalrpop_states.specs.conflicts.AllConflicts.{AreAllConflictFree};
 
 use crate::lookahead::Lookahead;
 use crate::lr1_core::conflict_count;
@@ -114,7 +114,7 @@ pub fn has_no_conflict<'grammar>(
     state: &Lr1State<'grammar>,
     terminals: &TerminalSet,
 ) -> Result<bool, OutOfMemory>
-    ensures { IfOk result (λ yes. IsTrue yes ↔ HasNoConflict terminals.now state.now) }
+    ensures { IfOk result (λ yes. IsTrue yes ↔ IsConflictFree terminals.now state.now) }
 {
     let _all = terminals.all();
     if state.reductions.is_empty() {
@@ -134,7 +134,7 @@ pub fn have_no_conflict<'grammar>(
     states: &[Lr1State<'grammar>],
     terminals: &TerminalSet,
 ) -> Result<bool, OutOfMemory>
-    ensures { IfOk result (λ yes. IsTrue yes ↔ HaveNoConflict terminals.now states.now) }
+    ensures { IfOk result (λ yes. IsTrue yes ↔ AreAllConflictFree terminals.now states.now) }
 {
     for state in states {
         if !has_no_conflict(alloc, state, terminals)? {

@@ -3,7 +3,7 @@
 ghost use Rattle.std.specs.Prelude.{◌≡◌, ◌-◌, ◌<◌, ◌↔◌, ℕ, List, slice_get, Some, IsTrue, IfOk};
 ghost use Rattle.lalrpop_collections.specs.lists.Each.{EachItem};
 ghost use Rattle.lalrpop_grammar.specs.grammars.Names.{symbol_text};
-ghost use Rattle.lalrpop_states.specs.states.Coherent.{AreCoherent, IsCoherentState, IsCoherentEdge, IsCoherentStep, HasItem, StartsAtZero, AreFinished, IsAt, IsShifted, symbol_of};
+ghost use Rattle.lalrpop_states.specs.states.Coherent.{AreCoherent, IsCoherentState, IsCoherentEdge, IsCoherentStep, HasItem, StartsAtZero, AreFinished, IsAt, IsShiftedFrom, symbol_of_ref};
 ghost use Rattle.lalrpop_states.specs.states.Edges.{state_edges};
 
 use super::item::Item;
@@ -116,7 +116,7 @@ pub enum SymbolRef<'a> {
 impl SymbolRef<'_> {
     /// The symbol with a copy of the name. `OutOfMemory` if an allocation fails.
     pub fn to_symbol(self, alloc: Global) -> Result<Symbol, OutOfMemory>
-        ensures { IfOk result (λ symbol. symbol ≡ symbol_of self.entry) }
+        ensures { IfOk result (λ symbol. symbol ≡ symbol_of_ref self.entry) }
     {
         match self {
             SymbolRef::Nonterminal(name) => Ok(Symbol::Nonterminal(name.clone(alloc)?)),
@@ -126,9 +126,9 @@ impl SymbolRef<'_> {
 }
 
 impl fmt::Display for SymbolRef<'_> {
-    ghost output = { λ symbol. Some (symbol_text (symbol_of symbol)) };
+    ghost output = { λ symbol. Some (symbol_text (symbol_of_ref symbol)) };
 
-    ghost styled_output = { λ symbol _. Some (symbol_text (symbol_of symbol)) };
+    ghost styled_output = { λ symbol _. Some (symbol_text (symbol_of_ref symbol)) };
 
     fn fmt<W: fmt::Write>(&self, f: &mut fmt::Formatter<W>) -> fmt::Result {
         match self {
@@ -140,7 +140,7 @@ impl fmt::Display for SymbolRef<'_> {
 
 // Whether two symbols are equal.
 fn is_symbol(symbol: &Symbol, wanted: SymbolRef) -> bool
-    ensures { IsTrue result ↔ (symbol.now ≡ symbol_of wanted.entry) }
+    ensures { IsTrue result ↔ (symbol.now ≡ symbol_of_ref wanted.entry) }
 {
     match (symbol, wanted) {
         (Symbol::Nonterminal(a), SymbolRef::Nonterminal(b)) => equal(a, b),
@@ -157,7 +157,7 @@ fn is_coherent_step<'grammar, L>(
     symbol: SymbolRef,
     target: StateIndex,
 ) -> bool
-    ensures { IsTrue result ↔ IsCoherentStep states.now source.now (symbol_of symbol.entry)
+    ensures { IsTrue result ↔ IsCoherentStep states.now source.now (symbol_of_ref symbol.entry)
         target.0 }
 {
     if target.0 >= states.len() {
@@ -193,7 +193,7 @@ fn is_coherent_edge<'grammar, L>(
     symbol: SymbolRef,
     target: &[Item<'grammar, L>],
 ) -> bool
-    ensures { IsTrue result ↔ IsCoherentEdge source.now (symbol_of symbol.entry) target.now }
+    ensures { IsTrue result ↔ IsCoherentEdge source.now (symbol_of_ref symbol.entry) target.now }
 {
     for item in target {
         if !is_shifted(source, symbol, item) {
@@ -210,7 +210,7 @@ fn is_shifted<'grammar, L>(
     item: &Item<'grammar, L>,
 ) -> bool
     ensures { IsTrue result ↔
-        (0 < item.now.index → IsShifted source.now (symbol_of symbol.entry) item.now) }
+        (0 < item.now.index → IsShiftedFrom source.now (symbol_of_ref symbol.entry) item.now) }
 {
     if item.index == 0 {
         return true;

@@ -1,7 +1,7 @@
 //! The conflicts of a state.
 ghost use Rattle.std.specs.Prelude.{◌≡◌, ◌++◌, ◌<◌, ◌↔◌, ℕ, [], List, IfOk, OnOk, ◌∷◌};
 ghost use Rattle.std.specs.List.{flat_map};
-ghost use Rattle.lalrpop_states.specs.conflicts.StateConflicts.{state_conflicts, shift_conflicts, conflicts_on_bit, conflicts_on_place, reduce_conflicts, later_conflicts, HasNoConflict};
+ghost use Rattle.lalrpop_states.specs.conflicts.StateConflicts.{state_conflicts, shift_conflicts, conflicts_on_bit, conflicts_on_place, reduce_conflicts, later_conflicts, IsConflictFree};
 
 use super::state::{Action, Conflict, Lr1Conflict, Lr1State, StateIndex};
 use lalrpop_collections::memory::OutOfMemory;
@@ -20,7 +20,8 @@ pub fn conflicts<'grammar>(
     terminals: &TerminalSet,
 ) -> Result<Vec<Lr1Conflict<'grammar>>, OutOfMemory>
     ensures list { IfOk result (λ list. list.items ≡ state_conflicts terminals.now state.now) }
-    ensures none { IfOk result (λ list. (list.items ≡ []) ↔ HasNoConflict terminals.now state.now) }
+    ensures none { IfOk result (λ list. (list.items ≡ []) ↔
+        IsConflictFree terminals.now state.now) }
 {
     let list = list_conflicts(alloc, state, terminals)?;
     Ok(list)

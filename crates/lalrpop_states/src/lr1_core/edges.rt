@@ -1,7 +1,7 @@
 //! An iterator over the edges of a state.
 ghost use Rattle.std.specs.Prelude.{◌≡◌, List};
 ghost use Rattle.std.specs.Iterator.{YieldsFirstBy, item_count};
-ghost use Rattle.lalrpop_states.specs.states.Edges.{Edge, seen_edge, state_edges};
+ghost use Rattle.lalrpop_states.specs.states.Edges.{StateEdge, seen_edge, state_edges};
 
 use super::coherent::SymbolRef;
 use super::state::{State, StateIndex};
@@ -18,9 +18,9 @@ pub struct Edges<'state> {
 
 impl<'state> Model for Edges<'state> {
     ghost use Rattle.std.specs.Prelude.{List};
-    ghost use Rattle.lalrpop_states.specs.states.Edges.{Edge, state_edges};
+    ghost use Rattle.lalrpop_states.specs.states.Edges.{StateEdge, state_edges};
 
-    ghost Value = { List Edge };
+    ghost Value = { List StateEdge };
 
     ghost view = { λ e. state_edges e.shifts e.gotos };
 }
@@ -40,9 +40,9 @@ impl<'grammar, L> State<'grammar, L> {
 impl<'state> Iterator for Edges<'state> {
     type Item = (SymbolRef<'state>, StateIndex);
 
-    ghost next_gives = { YieldsFirstBy seen_edge (λ (edges : List Edge). edges) };
+    ghost next_gives = { YieldsFirstBy seen_edge (λ (edges : List StateEdge). edges) };
 
-    ghost remaining = { item_count (λ (edges : List Edge). edges) };
+    ghost remaining = { item_count (λ (edges : List StateEdge). edges) };
 
     fn next(&mut self) -> Option<(SymbolRef<'state>, StateIndex)> {
         if let Some((terminal, target)) = self.shifts.next() {

@@ -4,7 +4,7 @@ pub mod CollapseCoherent
 pub mod CollapseContents
 pub mod CollapseDots
 pub mod CollapseLalr
-pub mod CollapseTold
+pub mod CollapseResults
 pub mod MergeableStates
 pub mod MergedCollapse
 pub mod MergedNumbers

@@ -3,7 +3,7 @@
 use Rattle.std.specs.Prelude.{◌≡◌, ◌⊎◌, ℕ, ◌<◌, ◌-◌, ◌^◌, nat_lt, cond, List, length}
 use Rattle.lalrpop_base.specs.Words.{Bits, AreCoherent, contents, IfConflicts, IsOnNoRightSide, AreFaithful, IsLR1, IsLALR1, productions, rules_of}
 use Rattle.lalrpop_construction.specs.Words.{AreSomeCanonicalStates, StopsAfter, AreStatesOf, AreTables, canonical_of, AreCanonicalStates, AreOrderedCanonical}
-use Rattle.lalrpop_construction.specs.Words.{FailByCanonicalConflicts}
+use Rattle.lalrpop_construction.specs.Words.{AreConflictsOfFailure}
 use Rattle.lalrpop_base.specs.Words.{AreAllConflicts}
 use Rattle.lalrpop_states.specs.declared.lr1_core.state.BuildError.{BuildError}
 use Rattle.lalrpop_states.specs.declared.lr1_core.state.BuildError.TheVariants.{Conflicts}
@@ -61,7 +61,7 @@ pub record HasConflictsOf (collapsed : Type 0) (stop_after : ℕ) (g : Grammar) 
   pub canonical : ¬ collapsed → stop_after ≡ 0 → AreCanonicalStates (rules_of g) start error.states.items
   pub built : ¬ collapsed → stop_after ≡ 0 → AreStatesOf (canonical_of g start) error.states.items
   pub all : ¬ collapsed → stop_after ≡ 0 → AreAllConflicts g.terminals error.states.items error.conflicts.items
-  pub conflicts : ¬ collapsed → stop_after ≡ 0 → FailByCanonicalConflicts g start error.states.items error.conflicts.items
+  pub conflicts : ¬ collapsed → stop_after ≡ 0 → AreConflictsOfFailure g start error.states.items error.conflicts.items
   -- with early stop: the states that were made until the stop, and their conflicts
   pub stopped : ¬ collapsed → StopsAfter (rules_of g) start stop_after error.states.items error.conflicts.items
   -- with a collapse: an error of the canonical construction, or of the collapse

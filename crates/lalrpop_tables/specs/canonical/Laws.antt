@@ -53,22 +53,22 @@ SetErrorsAreCanonical =
 
 -- ---- without lookahead
 -- the construction of states without lookahead
-abbrev pub lr0_of : Grammar → NonterminalString → Nil → Construction Nil
-lr0_of g start lookahead =
+abbrev pub lr0_construction : Grammar → NonterminalString → Nil → Construction Nil
+lr0_construction g start lookahead =
     record { rules = rules_of g; start = start; first = productions_of g start; lookahead = lookahead }
 
 -- the states are as the construction without lookahead promises
 abbrev pub AreNilTables : Grammar → NonterminalString → Nil → List (State Nil) → Type 0
 AreNilTables g start lookahead =
     AreTablesFor nil_lookahead.ghosts.meaning nil_build.ghosts.begins nil_build.ghosts.passes
-    nil_lookahead.ghosts.lists_conflicts (lr0_of g start lookahead)
+    nil_lookahead.ghosts.lists_conflicts (lr0_construction g start lookahead)
 
 -- the error is as the construction without lookahead promises, with a stop after so many conflicts
 abbrev pub StopsWithNil : Grammar → NonterminalString → Nil → ℕ → BuildError Nil → Type 0
 StopsWithNil g start lookahead stop_after =
     StopsFor nil_lookahead.ghosts.meaning nil_build.ghosts.begins nil_build.ghosts.passes
     nil_lookahead.ghosts.lists_conflicts
-    (record { construction = lr0_of g start lookahead; stop_after = stop_after })
+    (record { construction = lr0_construction g start lookahead; stop_after = stop_after })
 
 -- states of the construction without lookahead are the LR(0) states
 abbrev pub NilTablesAreLr0 : Type 0

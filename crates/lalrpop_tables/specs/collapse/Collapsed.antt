@@ -20,7 +20,7 @@ use Rattle.lalrpop_grammar.specs.declared.repr.Production.{Production}
 use Rattle.lalrpop_grammar.specs.declared.repr.TerminalString.{TerminalString}
 use Rattle.lalrpop_states.specs.grammars.Ascending.{production_order}
 use Rattle.lr1_theory.specs.renumbering.Renumbered.{number_in, retargeted}
-use Rattle.lalrpop_states.specs.conflicts.AllConflicts.{HaveNoConflict, AreAllConflicts}
+use Rattle.lalrpop_states.specs.conflicts.AllConflicts.{AreAllConflictFree, AreAllConflicts}
 
 -- the dotted productions of a state, in the order of its items
 abbrev pub dots_in : State Bits → List (Production × ℕ)
@@ -39,8 +39,8 @@ abbrev pub ReducesOn : Production → ℕ → State Bits → Type 0
 ReducesOn p bit s = (r : Bits × Bor Production) × Contains s.reductions.items r × (r.1.now ≡ p) × IsTrue (has r.0 bit)
 
 -- the key leads to a state whose new number is the target
-abbrev pub LeadsTo : {K : Type 0} → (K → K → Ordering) → (ℕ → ℕ) → BTreeMap K StateIndex → K → StateIndex → Type 0
-LeadsTo order new edges key target = (old : StateIndex) × (get order edges key ≡ Some old) × (target ≡ retargeted new old)
+abbrev pub LeadsToRenumbered : {K : Type 0} → (K → K → Ordering) → (ℕ → ℕ) → BTreeMap K StateIndex → K → StateIndex → Type 0
+LeadsToRenumbered order new edges key target = (old : StateIndex) × (get order edges key ≡ Some old) × (target ≡ retargeted new old)
 
 -- the parameter says which states are merged
 module _ (Member : State Bits → Type 0) where
@@ -57,15 +57,15 @@ module _ (Member : State Bits → Type 0) where
     pub some : OfMember (λ _. Unit {0})
     pub listed : (s : State Bits) → Member s → dots_in s ≡ dots_in merged
     pub tokens : (k bit : ℕ) → HoldsAt k bit merged ↔ OfMember (HoldsAt k bit)
-    pub shifts : (t : TerminalString) (target : StateIndex) → (get terminal_ord.ghosts.cmp merged.shifts t ≡ Some target) ↔ OfMember (λ s. LeadsTo terminal_ord.ghosts.cmp new s.shifts t target)
-    pub gotos : (name : NonterminalString) (target : StateIndex) → (get name_cmp merged.gotos name ≡ Some target) ↔ OfMember (λ s. LeadsTo name_cmp new s.gotos name target)
+    pub shifts : (t : TerminalString) (target : StateIndex) → (get terminal_ord.ghosts.cmp merged.shifts t ≡ Some target) ↔ OfMember (λ s. LeadsToRenumbered terminal_ord.ghosts.cmp new s.shifts t target)
+    pub gotos : (name : NonterminalString) (target : StateIndex) → (get name_cmp merged.gotos name ≡ Some target) ↔ OfMember (λ s. LeadsToRenumbered name_cmp new s.gotos name target)
     pub reduces : (p : Production) → ReducesBy p merged ↔ OfMember (ReducesBy p)
     pub holds : (p : Production) (bit : ℕ) → ReducesOn p bit merged ↔ OfMember (ReducesOn p bit)
     pub ascend : IsStrictlySortedBy production_order (map (λ (r : Bits × Bor Production). r.1.now) merged.reductions.items)
 
 -- the state is in the list, and its new number is the given one
-abbrev pub IsNumbered : (ℕ → ℕ) → List (State Bits) → ℕ → State Bits → Type 0
-IsNumbered new before number s = (n : ℕ) × (slice_get before n ≡ Some s) × (new n ≡ number)
+abbrev pub HasNewNumber : (ℕ → ℕ) → List (State Bits) → ℕ → State Bits → Type 0
+HasNewNumber new before number s = (n : ℕ) × (slice_get before n ≡ Some s) × (new n ≡ number)
 
 -- the second list has the states of the first, of which those with the same dotted productions are
 -- merged, numbered by their first appearance
@@ -75,12 +75,12 @@ pub record IsCollapsed (before after : List (State Bits)) : Type 0 where
   pub below : (n m : ℕ) → slice_get numbers n ≡ Some m → m < length after
   pub first : (n m earlier : ℕ) → slice_get numbers n ≡ Some m → earlier < m → (k : ℕ) × (k < n) × (slice_get numbers k ≡ Some earlier)
   pub one : (n m : ℕ) (a b : State Bits) → slice_get before n ≡ Some a → slice_get before m ≡ Some b → dots_in a ≡ dots_in b → number_in numbers n ≡ number_in numbers m
-  pub each : (k : ℕ) (merged : State Bits) → slice_get after k ≡ Some merged → IsMerge (IsNumbered (number_in numbers) before k) (number_in numbers) k merged
+  pub each : (k : ℕ) (merged : State Bits) → slice_get after k ≡ Some merged → IsMerge (HasNewNumber (number_in numbers) before k) (number_in numbers) k merged
 
 -- the tables are the merged states of a list, and have no conflict
 pub record AreCollapsedTables (terminals : List TerminalString) (before after : List (State Bits)) : Type 0 where
   pub collapsed : IsCollapsed before after
-  pub free : HaveNoConflict terminals after
+  pub free : AreAllConflictFree terminals after
 
 -- an error has the merged states and all their conflicts, of which there is at least one; nothing
 -- is said of an allocation failure

@@ -3,7 +3,7 @@ use Rattle.std.specs.Prelude.{◌≡◌, ◌⊎◌, ℕ, List, IsTrue}
 use Rattle.lalrpop_base.specs.Words.{Bits, AreCoherent, contents, IfConflicts, AreFaithful, IsLALR1, productions, rules_of}
 use Rattle.lalrpop_construction.specs.Words.{FailsAfter, AreTables, canonical_of}
 use Rattle.lalrpop_tables.specs.collapse.Collapsed.{AreOrdered, AreCollapsedTables, FailsByCollapse}
-use Rattle.lalrpop_base.specs.Words.{AreRenumbered, HaveNoConflict}
+use Rattle.lalrpop_base.specs.Words.{AreRenumbered, AreAllConflictFree}
 use Rattle.lalrpop_states.specs.declared.lr1_core.state.BuildError.{BuildError}
 use Rattle.lalrpop_states.specs.declared.lr1_core.state.State.{State}
 use Rattle.lalrpop_grammar.specs.declared.repr.NonterminalString.{NonterminalString}
@@ -40,7 +40,7 @@ pub record AreRenumberedMerged (g : Grammar) (start : NonterminalString) (tables
   pub built : List (State Bits)
   pub made : AreMergedTables g start built
   pub renumbered : AreRenumbered g.terminals built tables
-  pub free : HaveNoConflict g.terminals tables
+  pub free : AreAllConflictFree g.terminals tables
 
 -- the error is one of the collapse of canonical states without a conflict
 pub record FailsMerged (g : Grammar) (start : NonterminalString) (error : BuildError Bits) : Type 0 where

@@ -1,6 +1,6 @@
 -- The results of the construction of tables, under the numbers of tables.
 use Rattle.std.specs.Prelude.{◌≡◌, ◌<◌, ◌≤◌, ◌+◌, ℕ, List, length}
-use Rattle.lalrpop_base.specs.Words.{Bits, Rules, AreRenumbered, HaveNoConflict}
+use Rattle.lalrpop_base.specs.Words.{Bits, Rules, AreRenumbered, AreAllConflictFree}
 use Rattle.lalrpop_construction.specs.Words.{Construction, AreTables, AreLr0States}
 use Rattle.lalrpop_states.specs.declared.lookahead.nil.Nil.{Nil}
 use Rattle.lalrpop_states.specs.declared.lr1_core.state.State.{State}
@@ -14,7 +14,7 @@ pub record AreRenumberedTables (c : Construction Bits) (tables : List (State Bit
   pub made : AreTables c built
   pub renumbered : AreRenumbered c.rules.terminals built tables
   pub some : 0 < length tables
-  pub free : HaveNoConflict c.rules.terminals tables
+  pub free : AreAllConflictFree c.rules.terminals tables
 
 -- the lane tables of a grammar, renumbered; no state has a conflict, each item holds all tokens,
 -- and there are as many states as LR(0) states
@@ -22,7 +22,7 @@ pub record AreRenumberedLaneTables (g : Rules) (start : NonterminalString) (tabl
   pub built : List (State Bits)
   pub lanes : AreLaneTables g start built
   pub renumbered : AreRenumbered g.terminals built tables
-  pub free : HaveNoConflict g.terminals tables
+  pub free : AreAllConflictFree g.terminals tables
   pub items : HaveFullItems g.terminals tables
   pub bare : List (State Nil)
   pub lr0 : AreLr0States g start bare
@@ -34,7 +34,7 @@ pub record AreRenumberedCopies (g : Rules) (start : NonterminalString) (copies :
   pub built : List (State Bits)
   pub copied : AreCopiedTables g start copies built
   pub renumbered : AreRenumbered g.terminals built tables
-  pub free : HaveNoConflict g.terminals tables
+  pub free : AreAllConflictFree g.terminals tables
   pub items : HaveFullItems g.terminals tables
   pub bare : List (State Nil)
   pub lr0 : AreLr0States g start bare

@@ -58,7 +58,7 @@ fn lane_tables<'grammar>(
         (λ tables. AreLaneTables (rules_of construct.now.grammar.now) construct.now.start
         tables.items)) }
 {
-    let Some((tables, at_once)) = construct.construct_told(alloc)? else {
+    let Some((tables, at_once)) = construct.construct_or_none(alloc)? else {
         return Ok(None);
     };
     if at_once && is_on_no_right_side(construct.grammar, &construct.start) {

@@ -2,7 +2,7 @@
 ghost use Rattle.std.specs.Prelude.{IfOk};
 ghost use Rattle.std.specs.List.{AllZip};
 ghost use Rattle.lalrpop_base.specs.Words.{AreJoinedReductions, HasTokensOf, IsReduced};
-ghost use Rattle.lalrpop_states.specs.collapse.Merging.{AreListed};
+ghost use Rattle.lalrpop_states.specs.collapse.Merging.{AreReductionsOfMap};
 
 use lalrpop_base::collections::multimap::Multimap;
 use lalrpop_base::lookahead::token_set::TokenSet;
@@ -34,7 +34,7 @@ fn list_reductions<'grammar>(
     alloc: Global,
     tokens_of: TokensOf<'grammar>,
 ) -> Result<Reductions<'grammar>, OutOfMemory>
-    ensures { IfOk result (λ list. AreListed tokens_of.entry list.items) }
+    ensures { IfOk result (λ list. AreReductionsOfMap tokens_of.entry list.items) }
 {
     let mut list = Vec::new(alloc);
     for (production, tokens) in tokens_of {

@@ -16,24 +16,24 @@ use Rattle.lalrpop_traces.specs.declared.trace.example.ExampleSymbol.{ExampleSym
 use Rattle.lalrpop_traces.specs.declared.trace.example.ExampleSymbol.TheVariants.{Symbol as SymbolOf, Epsilon}
 
 -- the symbols of an edge before its target, none if there is no edge
-abbrev pub prefix_of : Option TraceGraphEdge → List Symbol
-prefix_of None = []
-prefix_of (Some e) = e.symbol_sets.prefix.now
+abbrev pub edge_prefix : Option TraceGraphEdge → List Symbol
+edge_prefix None = []
+edge_prefix (Some e) = e.symbol_sets.prefix.now
 
 -- the symbol of an edge at its target, if there is one
-abbrev pub cursor_of : Option TraceGraphEdge → Option Symbol
-cursor_of None = None
-cursor_of (Some e) = option_copied e.symbol_sets.cursor
+abbrev pub edge_cursor : Option TraceGraphEdge → Option Symbol
+edge_cursor None = None
+edge_cursor (Some e) = option_copied e.symbol_sets.cursor
 
 -- the symbols of an edge after its target, none if there is no edge
-abbrev pub suffix_of : Option TraceGraphEdge → List Symbol
-suffix_of None = []
-suffix_of (Some e) = e.symbol_sets.suffix.now
+abbrev pub edge_suffix : Option TraceGraphEdge → List Symbol
+edge_suffix None = []
+edge_suffix (Some e) = e.symbol_sets.suffix.now
 
 -- the nonterminal of a node
-abbrev pub name_of : TraceGraphNode → NonterminalString
-name_of (Nonterminal name) = name
-name_of (Item item) = item.production.nonterminal
+abbrev pub nonterminal_of_node : TraceGraphNode → NonterminalString
+nonterminal_of_node (Nonterminal name) = name
+nonterminal_of_node (Item item) = item.production.nonterminal
 
 -- the cursor as a symbol of an example; without a cursor, `Epsilon` if the prefix is empty, else
 -- nothing
@@ -50,12 +50,12 @@ cursor_list (Some x) = x ∷ []
 -- the reduction of an edge from `start` to before `end`, none if there is no edge
 abbrev pub reduced_at : Option TraceGraphEdge → ℕ → ℕ → List Reduction
 reduced_at None start end = []
-reduced_at (Some e) start end = record { start = start; end = end; nonterminal = name_of e.from } ∷ []
+reduced_at (Some e) start end = record { start = start; end = end; nonterminal = nonterminal_of_node e.from } ∷ []
 
 -- the nonterminal of the node from which an edge comes, if there is an edge
 abbrev pub reduced_name : Option TraceGraphEdge → Option NonterminalString
 reduced_name None = None
-reduced_name (Some e) = Some (name_of e.from)
+reduced_name (Some e) = Some (nonterminal_of_node e.from)
 
 -- the numbers of the edges that a walk took
 abbrev pub path_of : List EnumeratorState → List ℕ
@@ -69,22 +69,22 @@ module _ (graph : TraceGraph) where
   -- the prefixes, the outermost first
   abbrev pub prefixes : List ℕ → List Symbol
   prefixes [] = []
-  prefixes (k ∷ path) = prefixes path ++ prefix_of (edge_of k)
+  prefixes (k ∷ path) = prefixes path ++ edge_prefix (edge_of k)
 
   -- the suffixes, the innermost first
   abbrev pub suffixes : List ℕ → List Symbol
   suffixes [] = []
-  suffixes (k ∷ path) = suffix_of (edge_of k) ++ suffixes path
+  suffixes (k ∷ path) = edge_suffix (edge_of k) ++ suffixes path
 
   -- the innermost cursor, or `Epsilon` for an empty right side
   abbrev pub place : List ℕ → List ExampleSymbol
   place [] = []
-  place (k ∷ path) = place_of (cursor_of (edge_of k)) (prefix_of (edge_of k))
+  place (k ∷ path) = place_of (edge_cursor (edge_of k)) (edge_prefix (edge_of k))
 
   -- the innermost cursor, if there is one
   abbrev pub innermost : List ℕ → List Symbol
   innermost [] = []
-  innermost (k ∷ path) = cursor_list (cursor_of (edge_of k))
+  innermost (k ∷ path) = cursor_list (edge_cursor (edge_of k))
 
   -- the symbols from the place of the example on: the innermost cursor, and the suffixes
   abbrev pub following : List ℕ → List Symbol
@@ -96,15 +96,15 @@ module _ (graph : TraceGraph) where
 
   -- the reductions of an example of so many symbols, the innermost first. Each reaches from after
   -- the prefixes to before the suffixes of the edges around it
-  abbrev pub reduced : ℕ → List ℕ → List Reduction
-  reduced count [] = []
-  reduced count (k ∷ path) = reduced_at (edge_of k) (length (prefixes path)) (count - length (suffixes path)) ++ reduced count path
+  abbrev pub example_reductions : ℕ → List ℕ → List Reduction
+  example_reductions count [] = []
+  example_reductions count (k ∷ path) = reduced_at (edge_of k) (length (prefixes path)) (count - length (suffixes path)) ++ example_reductions count path
 
   -- the example that a path spells
   pub record IsExampleOf (path : List ℕ) (example : Example) : Type 0 where
     pub symbols : example.symbols.items ≡ spelled path
     pub cursor : example.cursor ≡ length (prefixes path)
-    pub reductions : example.reductions.items ≡ reduced (length (spelled path)) path
+    pub reductions : example.reductions.items ≡ example_reductions (length (spelled path)) path
 
 -- the second example has the same symbols, cursor and reductions
 pub record IsSameExample (example copy : Example) : Type 0 where
@@ -148,7 +148,7 @@ SpellsDerivation productions example = ReduceAll productions example.symbols.ite
 -- an edge carries a right side of its source's nonterminal. If it leads to a nonterminal, its
 -- cursor is that one
 pub record CarriesRightSide (productions : List Production) (e : TraceGraphEdge) : Type 0 where
-  pub right_side : IsRightSide productions (name_of e.from) (e.symbol_sets.prefix.now ++ (cursor_list (option_copied e.symbol_sets.cursor) ++ e.symbol_sets.suffix.now))
+  pub right_side : IsRightSide productions (nonterminal_of_node e.from) (e.symbol_sets.prefix.now ++ (cursor_list (option_copied e.symbol_sets.cursor) ++ e.symbol_sets.suffix.now))
   pub cursor : (name : NonterminalString) → e.to ≡ Nonterminal name → option_copied e.symbol_sets.cursor ≡ Some (NonterminalOf name)
 
 -- each of the edges carries a right side of its source's nonterminal

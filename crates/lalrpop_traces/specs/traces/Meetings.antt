@@ -12,10 +12,10 @@ use Rattle.lalrpop_state_graph.specs.Words.{state_cmp}
 use Rattle.lalrpop_traces.specs.traces.TraceGraphs.{Graph, PlainEdge, plain_edges}
 use Rattle.lalrpop_traces.specs.traces.TraceOrder.{AddsInTurn, ends_of, Duty, come_to, take_up, take_up_each, items_at, Walks}
 use Rattle.lalrpop_traces.specs.traces.Traces.{Backtrace, Meeting}
-use Rattle.lalrpop_traces.specs.declared.trace.ground.Trace.{Trace}
-use Rattle.lalrpop_traces.specs.declared.trace.meeting.Met.{Met}
-use Rattle.lalrpop_traces.specs.declared.trace.meeting.Task.{Task}
-use Rattle.lalrpop_traces.specs.declared.trace.meeting.Task.TheVariants.{Meet, MeetItems}
+use Rattle.lalrpop_traces.specs.declared.trace.context.Trace.{Trace}
+use Rattle.lalrpop_traces.specs.declared.trace.walk_back.Met.{Met}
+use Rattle.lalrpop_traces.specs.declared.trace.walk_back.Task.{Task}
+use Rattle.lalrpop_traces.specs.declared.trace.walk_back.Task.TheVariants.{Meet, MeetItems}
 
 -- ---- what was met
 
@@ -49,7 +49,7 @@ pub record AddsInOrder (old new : Graph) (given : List PlainEdge) : Type 0 where
 
 -- the backtrace that a trace makes
 abbrev pub asked : Trace → Backtrace
-asked t = record { traced = t.traced; productions = t.ground.now.first_sets.now.productions; states = t.ground.now.states.now; state = t.state; item = t.item }
+asked t = record { traced = t.traced; productions = t.context.now.first_sets.now.productions; states = t.context.now.states.now; state = t.state; item = t.item }
 
 -- a trace went on from the first duties to the second. It added the edges that a walk gives on this
 -- way, and has met what that walk then has met

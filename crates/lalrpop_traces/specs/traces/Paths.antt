@@ -5,7 +5,7 @@ use Rattle.std.specs.List.{flat_map}
 use Rattle.lalrpop_base.specs.Words.{Dotted, AllDiffer}
 use Rattle.lalrpop_traces.specs.contracts.trace.node.TraceGraphNodePartialEq.TheImpl as node_eq
 use Rattle.lalrpop_traces.specs.traces.Examples.{edge_of, path_of}
-use Rattle.lalrpop_traces.specs.traces.TraceGraphs.{node_count, numbers_to, numbers_from}
+use Rattle.lalrpop_traces.specs.traces.TraceGraphs.{node_count, numbers_to, edge_numbers_to_source}
 use Rattle.lalrpop_traces.specs.declared.trace.node.TraceGraphNode.{TraceGraphNode}
 use Rattle.lalrpop_traces.specs.declared.trace.node.TraceGraphNode.TheVariants.{Nonterminal, Item}
 use Rattle.lalrpop_traces.specs.declared.trace.trace_graph.TraceGraph.{TraceGraph}
@@ -18,9 +18,9 @@ source_of None = None
 source_of (Some e) = Some e.from
 
 -- the node to which an edge leads, if there is an edge
-abbrev pub target_of : Option TraceGraphEdge → Option TraceGraphNode
-target_of None = None
-target_of (Some e) = Some e.to
+abbrev pub target_node : Option TraceGraphEdge → Option TraceGraphNode
+target_node None = None
+target_node (Some e) = Some e.to
 
 -- whether there is a node and it is an item
 abbrev pub is_item : Option TraceGraphNode → Bool
@@ -45,7 +45,7 @@ module _ (graph : TraceGraph) where
 
   -- the node to which the edge with the number leads, if there is one
   abbrev pub target : ℕ → Option TraceGraphNode
-  target k = target_of (edge_of graph k)
+  target k = target_node (edge_of graph k)
 
   -- the path goes backwards from a node over edges to the first item. Each edge leads to the node
   -- from which the edge before it comes. Only the last edge comes from an item
@@ -75,7 +75,7 @@ module _ (graph : TraceGraph) where
   -- at most so many nonterminals more
   abbrev pub over : ℕ → List ℕ → ℕ → List (List ℕ)
   over zero taken k = cond (is_item (source k)) (reverse (k ∷ taken) ∷ []) []
-  over (suc n) taken k = cond (is_item (source k)) (reverse (k ∷ taken) ∷ []) (cond (comes_again k taken) [] (flat_map (over n (k ∷ taken)) (reverse (numbers_from graph k))))
+  over (suc n) taken k = cond (is_item (source k)) (reverse (k ∷ taken) ∷ []) (cond (comes_again k taken) [] (flat_map (over n (k ∷ taken)) (reverse (edge_numbers_to_source graph k))))
 
   -- the paths back from a node, depth first, the newest edges first. No path passes more
   -- nonterminals than there are nodes
@@ -86,4 +86,4 @@ module _ (graph : TraceGraph) where
   -- are left at the newest node
   abbrev pub left_over : TraceGraphNode → List EnumeratorState → ℕ → List (List ℕ)
   left_over start [] left = flat_map (over (node_count graph) []) (reverse (take left (numbers_to graph start)))
-  left_over start (s ∷ below) left = flat_map (over (node_count graph - length (s ∷ below)) (path_of (s ∷ below))) (reverse (take left (numbers_from graph s.number))) ++ left_over start below s.left
+  left_over start (s ∷ below) left = flat_map (over (node_count graph - length (s ∷ below)) (path_of (s ∷ below))) (reverse (take left (edge_numbers_to_source graph s.number))) ++ left_over start below s.left

@@ -51,8 +51,8 @@ pub record IsGraph (graph : Graph) : Type 0 where
   pub ends : HaveEnds graph.nodes graph.edges
 
 -- an edge comes from the node, or leads to it
-abbrev pub IsEnd : List PlainEdge → TraceGraphNode → Type 0
-IsEnd edges n = (e : PlainEdge) × Contains edges e × ((e.from ≡ n) ⊎ (e.to ≡ n))
+abbrev pub IsEndpoint : List PlainEdge → TraceGraphNode → Type 0
+IsEndpoint edges n = (e : PlainEdge) × Contains edges e × ((e.from ≡ n) ⊎ (e.to ≡ n))
 
 -- each value of the first list is at its place in the second
 abbrev pub KeepPlaces : {X : Type 0} → List X → List X → Type 0
@@ -98,8 +98,8 @@ numbers_to_source graph None = []
 numbers_to_source graph (Some e) = numbers_to graph e.from
 
 -- the numbers of the edges to the source of the edge with the number
-abbrev pub numbers_from : Graph → ℕ → List ℕ
-numbers_from graph edge = numbers_to_source graph (slice_get graph.edges edge)
+abbrev pub edge_numbers_to_source : Graph → ℕ → List ℕ
+edge_numbers_to_source graph edge = numbers_to_source graph (slice_get graph.edges edge)
 
 -- the labels have the same symbols
 pub record SameLabels (a b : SymbolSets) : Type 0 where

@@ -13,8 +13,8 @@ use Rattle.lalrpop_state_graph.specs.Words.{edges, state_cmp}
 use Rattle.lalrpop_state_graph.specs.graphs.StateGraph.{LeadsTo}
 use Rattle.lalrpop_traces.specs.traces.TraceGraphs.{Graph, PlainEdge, plain_edges}
 use Rattle.lalrpop_traces.specs.traces.Traces.{Backtrace, Meeting, GoesOn, dotted, dot_edge, own_edge}
-use Rattle.lalrpop_traces.specs.declared.trace.ground.Traced.{Traced}
-use Rattle.lalrpop_traces.specs.declared.trace.ground.Traced.TheVariants.{Shift, Reduce}
+use Rattle.lalrpop_traces.specs.declared.trace.context.Traced.{Traced}
+use Rattle.lalrpop_traces.specs.declared.trace.context.Traced.TheVariants.{Shift, Reduce}
 use Rattle.lalrpop_traces.specs.declared.trace.node.TraceGraphNode.{TraceGraphNode}
 use Rattle.lalrpop_traces.specs.declared.trace.node.TraceGraphNode.TheVariants.{Nonterminal as NameNode, Item as ItemNode}
 

@@ -10,9 +10,9 @@ use Rattle.lalrpop_states.specs.declared.lr1_core.state.State.{State}
 use Rattle.lalrpop_states.specs.declared.lr1_core.state.StateIndex.{StateIndex}
 use Rattle.lalrpop_state_graph.specs.Words.{edges}
 use Rattle.lalrpop_state_graph.specs.graphs.StateGraph.{LeadsTo}
-use Rattle.lalrpop_traces.specs.traces.TraceGraphs.{Graph, PlainEdge, plain_edges, IsEnd, IsGraph}
-use Rattle.lalrpop_traces.specs.declared.trace.ground.Traced.{Traced}
-use Rattle.lalrpop_traces.specs.declared.trace.ground.Traced.TheVariants.{Shift, Reduce}
+use Rattle.lalrpop_traces.specs.traces.TraceGraphs.{Graph, PlainEdge, plain_edges, IsEndpoint, IsGraph}
+use Rattle.lalrpop_traces.specs.declared.trace.context.Traced.{Traced}
+use Rattle.lalrpop_traces.specs.declared.trace.context.Traced.TheVariants.{Shift, Reduce}
 use Rattle.lalrpop_traces.specs.declared.trace.node.TraceGraphNode.{TraceGraphNode}
 use Rattle.lalrpop_traces.specs.declared.trace.node.TraceGraphNode.TheVariants.{Nonterminal as NameNode, Item as ItemNode}
 
@@ -93,19 +93,19 @@ module _ (b : Backtrace) where
   -- an item from which the trace goes on gives an edge from its own nonterminal to the one that it
   -- takes. If a reduction is traced, it gives the edge to itself from its own nonterminal, too. Any
   -- other item gives an edge from itself to the nonterminal that it takes
-  pub data Gives (name : NonterminalString) (item : Dotted Bits) (e : PlainEdge) : Type 0 where
-    onward : GoesOn item → e ≡ dot_edge (NameNode item.production.nonterminal) (NameNode name) item.production item.index → Gives name item e
-    itself : GoesOn item → b.traced ≡ Reduce → e ≡ own_edge item.production item.index → Gives name item e
-    stops : ¬ GoesOn item → e ≡ dot_edge (ItemNode (dotted item.production item.index)) (NameNode name) item.production item.index → Gives name item e
+  pub data GivesEdge (name : NonterminalString) (item : Dotted Bits) (e : PlainEdge) : Type 0 where
+    onward : GoesOn item → e ≡ dot_edge (NameNode item.production.nonterminal) (NameNode name) item.production item.index → GivesEdge name item e
+    itself : GoesOn item → b.traced ≡ Reduce → e ≡ own_edge item.production item.index → GivesEdge name item e
+    stops : ¬ GoesOn item → e ≡ dot_edge (ItemNode (dotted item.production item.index)) (NameNode name) item.production item.index → GivesEdge name item e
 
   -- the edge is the one to the traced item from its own nonterminal, or is given by an item that
   -- takes a nonterminal that was met
   pub data IsTraced (e : PlainEdge) : Type 0 where
     first : e ≡ own_edge b.item.production b.item.index → IsTraced e
-    given : (m : Meeting) (item : Dotted Bits) → IsMet m → Takes m item → Gives m.1 item e → IsTraced e
+    given : (m : Meeting) (item : Dotted Bits) → IsMet m → Takes m item → GivesEdge m.1 item e → IsTraced e
 
 -- the graph has exactly the edges of the backtrace, each once, and exactly their ends as its nodes
 pub record IsTraceOf (b : Backtrace) (graph : Graph) : Type 0 where
   pub exactly : (e : PlainEdge) → Contains (plain_edges graph) e ↔ IsTraced b e
-  pub nodes : (n : TraceGraphNode) → Contains graph.nodes n ↔ IsEnd (plain_edges graph) n
+  pub nodes : (n : TraceGraphNode) → Contains graph.nodes n ↔ IsEndpoint (plain_edges graph) n
   pub is_graph : IsGraph graph

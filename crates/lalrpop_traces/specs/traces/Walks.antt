@@ -5,7 +5,7 @@ use Rattle.lalrpop_base.specs.Words.{Bits, has, IsFirstSet}
 use Rattle.lalrpop_collections.specs.declared.memory.OutOfMemory.{OutOfMemory}
 use Rattle.lalrpop_traces.specs.traces.Examples.{path_of, following, IsExampleOf}
 use Rattle.lalrpop_traces.specs.traces.Paths.{over, left_over}
-use Rattle.lalrpop_traces.specs.traces.TraceGraphs.{node_count, numbers_to, numbers_from}
+use Rattle.lalrpop_traces.specs.traces.TraceGraphs.{node_count, numbers_to, edge_numbers_to_source}
 use Rattle.lalrpop_traces.specs.declared.trace.filtered.FilteredPathEnumerator.{FilteredPathEnumerator}
 use Rattle.lalrpop_traces.specs.declared.trace.node.TraceGraphNode.{TraceGraphNode}
 use Rattle.lalrpop_traces.specs.declared.trace.trace_graph.TraceGraph.{TraceGraph}
@@ -21,7 +21,7 @@ total w (k ∷ ks) = w k + total w ks
 -- how many steps walks of a length over an edge can take
 abbrev pub weight : TraceGraph → ℕ → ℕ → ℕ
 weight g zero k = 2
-weight g (suc n) k = 2 + total (weight g n) (numbers_from g k)
+weight g (suc n) k = 2 + total (weight g n) (edge_numbers_to_source g k)
 
 -- the edges that were taken, the newest first
 abbrev pub frames : PathEnumerator → List EnumeratorState
@@ -30,12 +30,12 @@ frames walk = reverse walk.stack.items
 -- the numbers of the edges to the newest node of a walk
 abbrev pub numbers_at : TraceGraph → TraceGraphNode → List EnumeratorState → List ℕ
 numbers_at g start [] = numbers_to g start
-numbers_at g start (s ∷ below) = numbers_from g s.number
+numbers_at g start (s ∷ below) = edge_numbers_to_source g s.number
 
 -- the weight of the edges that are left at the newest node, and at those below it
 abbrev pub load_of : TraceGraph → TraceGraphNode → ℕ → List EnumeratorState → ℕ → ℕ
 load_of g start n [] left = total (weight g n) (take left (numbers_to g start))
-load_of g start n (s ∷ below) left = total (weight g (n - length (s ∷ below))) (take left (numbers_from g s.number)) + suc (load_of g start n below s.left)
+load_of g start n (s ∷ below) left = total (weight g (n - length (s ∷ below))) (take left (edge_numbers_to_source g s.number)) + suc (load_of g start n below s.left)
 
 -- the weight of the edges that a walk has left
 abbrev pub load : PathEnumerator → ℕ
@@ -59,13 +59,13 @@ abbrev pub bound : PathEnumerator → ℕ
 bound walk = cond walk.refused 1 0 + bound_of walk.stack.items (load walk)
 
 -- how often a walk can give up an edge or a node before nothing is left
-abbrev pub steps_of : List EnumeratorState → ℕ → ℕ
-steps_of [] left = left
-steps_of (s ∷ below) left = left + suc (steps_of below s.left)
+abbrev pub remaining_steps : List EnumeratorState → ℕ → ℕ
+remaining_steps [] left = left
+remaining_steps (s ∷ below) left = left + suc (remaining_steps below s.left)
 
 -- how often the walk can do so
 abbrev pub steps : PathEnumerator → ℕ
-steps walk = steps_of (frames walk) walk.left
+steps walk = remaining_steps (frames walk) walk.left
 
 -- the paths after the current one of a walk
 abbrev pub remaining : PathEnumerator → List (List ℕ)

@@ -1,7 +1,7 @@
 //! The example that a path spells.
 ghost use Rattle.std.specs.Prelude.{◌≡◌, ◌≤◌, ◌++◌, List, map, length, slice_get, option_copied, Some, Contains, IfOk, OnOk};
 ghost use Rattle.lalrpop_base.specs.Words.{IsFirstSet, HasKnownTerminals};
-ghost use Rattle.lalrpop_traces.specs.traces.Examples.{IsExampleOf, path_of, prefixes, suffixes, place, place_of, reduced, reduced_at, cursor_list, innermost, following};
+ghost use Rattle.lalrpop_traces.specs.traces.Examples.{IsExampleOf, path_of, prefixes, suffixes, place, place_of, example_reductions, reduced_at, cursor_list, innermost, following};
 ghost use Rattle.lalrpop_traces.specs.traces.TraceGraphs.{AreKnownEdges};
 ghost use Rattle.lalrpop_grammar.specs.declared.repr.TerminalString.{TerminalString};
 
@@ -227,7 +227,8 @@ fn reductions_of<'grammar>(
     requires before { before ≡ length (prefixes graph.now (path_of path.now)) }
     requires behind { behind ≡ length (suffixes graph.now (path_of path.now)) }
     requires count { behind ≤ count }
-    ensures { IfOk result (λ list. list.items ≡ reduced graph.now count (path_of path.now)) }
+    ensures { IfOk result (λ list. list.items ≡
+        example_reductions graph.now count (path_of path.now)) }
 {
     let mut reductions = Vec::new(alloc);
     let mut left = path;

@@ -4,8 +4,8 @@ ghost use Rattle.lalrpop_base.specs.Words.{AddsOnce, AllDiffer};
 ghost use Rattle.lalrpop_grammar.specs.declared.repr.Production.{Production};
 ghost use Rattle.lalrpop_grammar.specs.declared.repr.TerminalString.{TerminalString};
 ghost use Rattle.lalrpop_traces.specs.traces.Paths.{is_item, item_node, source, are_one, paths, IsPath};
-ghost use Rattle.lalrpop_traces.specs.traces.Examples.{prefix_of, cursor_of, suffix_of, reduced_name, IsExampleOf, CarryRightSides, SpellsDerivation};
-ghost use Rattle.lalrpop_traces.specs.traces.TraceGraphs.{AreKnownEdges, IsKnownLabel, IsGraph, IsFrom, KeepPlaces, AddsBoth, AddsNoOther, AddsEdge, SameLabels, plain, plain_edge, node_count, numbers_to, numbers_from};
+ghost use Rattle.lalrpop_traces.specs.traces.Examples.{edge_prefix, edge_cursor, edge_suffix, reduced_name, IsExampleOf, CarryRightSides, SpellsDerivation};
+ghost use Rattle.lalrpop_traces.specs.traces.TraceGraphs.{AreKnownEdges, IsKnownLabel, IsGraph, IsFrom, KeepPlaces, AddsBoth, AddsNoOther, AddsEdge, SameLabels, plain, plain_edge, node_count, numbers_to, edge_numbers_to_source};
 ghost use Rattle.lalrpop_traces.specs.traces.Walks.{to_come};
 ghost use Rattle.lalrpop_traces.specs.declared.trace.example.Example.{Example};
 ghost use Rattle.lalrpop_traces.specs.declared.trace.trace_graph.TraceGraphEdge.{TraceGraphEdge};
@@ -295,7 +295,7 @@ impl<'grammar> TraceGraph<'grammar> {
 
     /// As `number_to`, for the node from which an edge comes.
     pub(crate) fn number_from(&self, edge: usize, place: usize) -> Option<usize>
-        ensures { result ≡ slice_get (numbers_from self.now edge) place }
+        ensures { result ≡ slice_get (edge_numbers_to_source self.now edge) place }
     {
         let edges = self.edges();
         if edge >= edges.len() {
@@ -306,7 +306,7 @@ impl<'grammar> TraceGraph<'grammar> {
 
     /// How many edges lead to the node from which an edge comes.
     pub(crate) fn count_from(&self, edge: usize) -> usize
-        ensures { result ≡ length (numbers_from self.now edge) }
+        ensures { result ≡ length (edge_numbers_to_source self.now edge) }
     {
         let edges = self.edges();
         if edge >= edges.len() {
@@ -348,9 +348,9 @@ impl<'grammar> TraceGraph<'grammar> {
         ensures known { (terminals : List TerminalString) →
             AreKnownEdges terminals self.now.edges →
             IsKnownLabel terminals result }
-        ensures prefix { result.prefix.now ≡ prefix_of (slice_get self.now.edges edge) }
-        ensures cursor { option_copied result.cursor ≡ cursor_of (slice_get self.now.edges edge) }
-        ensures suffix { result.suffix.now ≡ suffix_of (slice_get self.now.edges edge) }
+        ensures prefix { result.prefix.now ≡ edge_prefix (slice_get self.now.edges edge) }
+        ensures cursor { option_copied result.cursor ≡ edge_cursor (slice_get self.now.edges edge) }
+        ensures suffix { result.suffix.now ≡ edge_suffix (slice_get self.now.edges edge) }
     {
         let edges = self.edges();
         if edge >= edges.len() {

@@ -15,8 +15,8 @@ use Rattle.lalrpop_states.specs.closures.Closure.{AreItemsBy, IsClosureOf}
 use Rattle.lalrpop_states.specs.construction.Transitions.{Entries, HasEntry, IsBehind, IsBehindOne, Shifts, reductions_of, seen_reduction}
 
 -- the item with a production, the dot at the start, and a lookahead
-abbrev pub begun : {L : Type 0} → L → Production → Dotted L
-begun lookahead p = record { production = p; index = 0; lookahead = lookahead }
+abbrev pub item_at_start : {L : Type 0} → L → Production → Dotted L
+item_at_start lookahead p = record { production = p; index = 0; lookahead = lookahead }
 
 -- the entries of the shifts and gotos of a state
 abbrev pub state_entries : {L : Type 0} → State L → Entries
@@ -27,7 +27,7 @@ abbrev pub HasTransition : {L : Type 0} → Symbol → StateIndex → State L �
 HasTransition x target state = HasEntry (state_entries state) x target
 
 -- the symbol is after a dot of the items, and the target is the number of the kernel that it gives
-pub record Leads {L : Type 0} (items : List (Dotted L)) (list : List (List (Dotted L))) (x : Symbol) (target : StateIndex) : Type 0 where
+pub record ItemsLeadTo {L : Type 0} (items : List (Dotted L)) (list : List (List (Dotted L))) (x : Symbol) (target : StateIndex) : Type 0 where
   pub kernel : List (Dotted L)
   pub behind : IsBehindOne x items
   pub shifts : Shifts x items kernel
@@ -40,7 +40,7 @@ pub record Leads {L : Type 0} (items : List (Dotted L)) (list : List (List (Dott
 pub record IsBuiltBy {L : Type 0} (Closes : List (Dotted L) → List (Dotted L) → Type 0) (list : List (List (Dotted L))) (kernel : List (Dotted L)) (number : ℕ) (state : State L) : Type 0 where
   pub index : state.index.0 ≡ number
   pub closure : Closes kernel state.items.vec.items
-  pub leads : (x : Symbol) (target : StateIndex) → HasTransition x target state → Leads state.items.vec.items list x target
+  pub leads : (x : Symbol) (target : StateIndex) → HasTransition x target state → ItemsLeadTo state.items.vec.items list x target
   pub all : (x : Symbol) (i : Dotted L) → Contains state.items.vec.items i → IsBehind x i → (target : StateIndex) × HasTransition x target state
   pub ascend : IsOrdered terminal_ord.ghosts.cmp state.shifts
   pub finished : map seen_reduction state.reductions.items ≡ reductions_of state.items.vec.items

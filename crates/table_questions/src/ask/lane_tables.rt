@@ -1,7 +1,7 @@
 //! Questions on lane tables.
 ghost use Rattle.std.specs.Prelude.{IfOk};
 ghost use Rattle.lalrpop_base.specs.Words.{IsWellFormed};
-ghost use Rattle.table_questions.specs.Traces.{AreReady, IsTracing};
+ghost use Rattle.table_questions.specs.Traces.{AreReadyToTrace, IsTracing};
 
 use super::arguments::{piece_end, tokens_between};
 use super::context_sets::actions_of;
@@ -81,7 +81,7 @@ pub fn traces_of<'grammar>(
     grammar: &'grammar Grammar,
 ) -> Result<Traces<'grammar>, QuestionError>
     requires { IsWellFormed grammar.now }
-    ensures { IfOk result AreReady }
+    ensures { IfOk result AreReadyToTrace }
 {
     let start = start_of(alloc, question, 1)?;
     let state = question.number(2)?;
@@ -106,7 +106,7 @@ pub fn traces_of<'grammar>(
 // Appends the tokens of each action in the row of each state. Each action is traced into a table of
 // its own.
 fn push_cells(alloc: Global, text: &mut String, traces: &Traces<'_>) -> Result<(), QuestionError>
-    requires { AreReady traces.now }
+    requires { AreReadyToTrace traces.now }
 {
     let mut tables = Vec::new(alloc);
     for place in 0..traces.actions.len() {
@@ -164,7 +164,7 @@ pub fn traced<'grammar>(
     from: usize,
     to: usize,
 ) -> Result<LaneTable<'grammar>, QuestionError>
-    requires { AreReady traces.now }
+    requires { AreReadyToTrace traces.now }
 {
     let grammar = traces.grammar;
     let first_sets = FirstSets::new(alloc, grammar)?;
@@ -200,7 +200,7 @@ fn trace<'grammar>(
     place: usize,
     action: &Action<'grammar>,
 ) -> Result<(), OutOfMemory>
-    requires ready { AreReady traces.now }
+    requires ready { AreReadyToTrace traces.now }
     requires tracing { IsTracing traces.now tracer.old }
     ensures { IsTracing traces.now tracer.new }
 {

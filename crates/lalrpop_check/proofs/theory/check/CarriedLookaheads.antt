@@ -22,12 +22,12 @@ use Rattle.lalrpop_states.proofs.theory.states.HeldTokens.{holds_has, place_ther
 use Rattle.lalrpop_states.proofs.theory.states.ContentsViews.{lead_as_items_say}
 use Rattle.lalrpop_collections.proofs.theory.lists.Lists.{contains_of_map}
 use Rattle.lalrpop_check.specs.check.ByNumber.{HoldUnions}
-use Rattle.lalrpop_follow_sets.specs.follow_sets.FollowNodes.{AreOfGrammar}
+use Rattle.lalrpop_follow_sets.specs.follow_sets.FollowNodes.{AreItemsOfGrammar}
 use Rattle.lalrpop_follow_sets.specs.follow_sets.FollowWalks.{FindsLookaheads}
 use Rattle.lalrpop_construction.specs.states.SamePlaces.{places_in}
 use Rattle.lalrpop_construction.specs.states.NumberedStates.{AreNumberedStates}
 use Rattle.lalrpop_numbers.specs.declared.numbers.Numbers.{Numbers}
-use Rattle.lalrpop_follow_sets.specs.declared.follow_sets.found.Found.{Found}
+use Rattle.lalrpop_follow_sets.specs.declared.follow_sets.sets.FollowSets.{FollowSets}
 use Rattle.lalrpop_construction.specs.declared.construction.numbered_state.NumberedState.{NumberedState}
 use Rattle.lalrpop_follow_sets.proofs.theory.follow_sets.FollowSets.{lane_lookahead, rest_behind}
 use Rattle.lalrpop_follow_sets.proofs.theory.lane_states.LanePlaces.{AreSamePlaces, lane_there, places_same, place_itself}
@@ -47,7 +47,7 @@ module _ (g : Grammar) (start : NonterminalString) (states : List (State Bits)) 
   here_there = places_same (holds_token g.terminals) any states states (place_itself states)
 
   -- ---- a lane token has a bit
-  module _ (well : IsWellFormed g) (own : AreOfGrammar (productions g) places) where
+  module _ (well : IsWellFormed g) (own : AreItemsOfGrammar (productions g) places) where
     given_bit : {s : ℕ} {p : Production} {dot : ℕ} {t : Token} → Gives (productions g) start places s p dot t → (bit : ℕ) × IsBitOf g.terminals t bit
     given_bit (behind_parent s p q dot after t c e f) =
         let known = known_rest g.terminals (suc dot) q.symbols after (known_symbols g q well (own s q dot c).0) (rest_behind dot q.symbols after (Nonterminal p.nonterminal) e) in
@@ -56,7 +56,7 @@ module _ (g : Grammar) (start : NonterminalString) (states : List (State Bits)) 
     given_bit (of_start s p e) = (length g.terminals, refl)
 
     -- ---- reductions that hold their lookahead sets
-    module _ (n : Numbers) (list : List NumberedState) (coherent : AreCoherent states) (differ : AllDiffer g.terminals) (closed : AreClosed (productions g) start here) (numbered : AreNumberedStates n states list) (found : Found)
+    module _ (n : Numbers) (list : List NumberedState) (coherent : AreCoherent states) (differ : AllDiffer g.terminals) (closed : AreClosed (productions g) start here) (numbered : AreNumberedStates n states list) (found : FollowSets)
         (finds : FindsLookaheads (rules_of g) start n places (length states) found) (held : HoldUnions found states list) where
       carried_lane : (m : ℕ) (p : Production) (t : Token) → IsCarried (productions g) start here m p (length p.symbols) t → IsLaneToken (productions g) start places m p (length p.symbols) t
       carried_lane m p t c = lane_there (productions g) start here places here_there m p (length p.symbols) t (carried_traced (productions g) start here closed c)

@@ -12,7 +12,7 @@ use Rattle.lalrpop_grammar.specs.declared.lookahead.token.Token.TheVariants.{Eof
 use Rattle.lalrpop_collections.proofs.theory.lists.Lists.{contains_of_map}
 use Rattle.lalrpop_states.proofs.theory.states.HeldTokens.{place_is}
 use Rattle.lalrpop_check.specs.Words.{HoldCarried}
-use Rattle.lalrpop_base.specs.Words.{Carried, at_place, AreCarried, AllHoldCarried}
+use Rattle.lalrpop_base.specs.Words.{Carried, at_place, AreCarried, AllHoldTableTokens}
 use Rattle.lalrpop_check.proofs.theory.check.CheckCarrying.{leads_in}
 use Rattle.lalrpop_states.proofs.theory.closures.Closing.{split_drop}
 use Rattle.lalrpop_states.proofs.theory.grammars.KnownTerminals.{token_bit, held_bit, bit_held, holds_more}
@@ -77,7 +77,7 @@ module _ (g : Grammar) (start : NonterminalString) (states : List (State Bits)) 
   reductions_at None r c = absurd (Contains-none r c)
   reductions_at (Some s) r c = (s, refl, contains_of_map (reduction_of (holds_token g.terminals)) s.reductions.items r c)
 
-  pub Carried-held : AllHoldCarried table states → HoldCarried g start states
+  pub Carried-held : AllHoldTableTokens table states → HoldCarried g start states
   Carried-held all n r t c h =
       let s = reductions_at (slice_get states n) r c in
       let q = s.2 in
@@ -87,7 +87,7 @@ module _ (g : Grammar) (start : NonterminalString) (states : List (State Bits)) 
       let held = all n s.0 s.1 at.0 q.0 at.2 f.0 f.1 b.0 b.2 in
       ap (λ (x : Reduction). x.holds t) (sym q.2) ∙ bit_held g.terminals (q.0).0 t b.0 b.1 held
 
-  pub Held-carried : AllDiffer g.terminals → HoldCarried g start states → AllHoldCarried table states
+  pub Held-carried : AllDiffer g.terminals → HoldCarried g start states → AllHoldTableTokens table states
   Held-carried differ held n s at k r there set entry bit h =
       let sound = are.sound (at_place n r.1.now (length r.1.now.symbols), set) entry in
       let t = token_at g.terminals differ bit (sound.fits bit h) in

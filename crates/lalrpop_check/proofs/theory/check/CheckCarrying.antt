@@ -9,7 +9,7 @@ use Rattle.lalrpop_base.specs.Words.{Bits, has, no_bits, with_bit, has-with_bit,
 use Rattle.lalrpop_base.specs.Words.{at_zero, IsCarried, eof_at_start, over, first_of_rest, through_rest, contents, contents_at, holds_token, IsFirstSetBefore}
 use Rattle.lalrpop_base.specs.Words.{IsNullable, AllDiffer, Contents, leads, FitsTokens, Rules, IsWellFormed, productions, productions_of, rules_of}
 use Rattle.lalrpop_base.specs.Words.{HasKnownTerminals, AreOwn, Begins, count, IsFound, burden, AllBelow, IsBelow, Carried, at_place, target_from, target_in, Sends}
-use Rattle.lalrpop_base.specs.Words.{IsBegunAt, IsOver, IsInto, Gives, IsCarriedTo, AreCarriedTo, HasBegun, HasStarted, AreCarried, begun, IsSettled}
+use Rattle.lalrpop_base.specs.Words.{IsPlaceAtStart, IsOver, IsInto, CarriesFromPlace, IsCarriedTo, AreCarriedTo, HasPropagatedIn, HasStarted, AreCarried, item_at_start, IsClosedAt}
 use Rattle.lalrpop_grammar.specs.closures.Closures.{over_edge}
 use Rattle.lalrpop_check.proofs.Types.{Grammar, NonterminalString, Production, State, Symbol, Token}
 use Rattle.lalrpop_grammar.specs.declared.lookahead.token.Token.TheVariants.{Eof, Error, Terminal as TokenOf}
@@ -91,7 +91,7 @@ module _ (g : Grammar) (start : NonterminalString) (states : List (State Bits)) 
   pub record IsCarrying (table : Carried) (queue : List Place) : Type 0 where
     pub sound : AreCarriedTo g start states table
     pub started : HasStarted g start table
-    pub done : (e : Entry) → Contains table e → Contains queue e.0 ⊎ IsSettled g states table e.0 e.1
+    pub done : (e : Entry) → Contains table e → Contains queue e.0 ⊎ IsClosedAt g states table e.0 e.1
     pub found : (k : Place) → Contains queue k → Contains (keys_of table) k
     pub differ : AllDiffer (keys_of table)
 
@@ -188,7 +188,7 @@ module _ (g : Grammar) (start : NonterminalString) (states : List (State Bits)) 
             fits = fits h.fits;
           })
 
-      pub settles_into : (old new : Carried) (queue pushed : List Place) → Sends (IsInto g place) given old new queue pushed → Contains (productions g) place.item.production → (q : Production) (after : List Symbol) → drop place.item.index place.item.production.symbols ≡ Nonterminal q.nonterminal ∷ after → Contains (productions g) q → HasBegun g new place.state q after tokens
+      pub settles_into : (old new : Carried) (queue pushed : List Place) → Sends (IsInto g place) given old new queue pushed → Contains (productions g) place.item.production → (q : Production) (after : List Symbol) → drop place.item.index place.item.production.symbols ≡ Nonterminal q.nonterminal ∷ after → Contains (productions g) q → HasPropagatedIn g new place.state q after tokens
       settles_into old new queue pushed s known q after behind among =
           let b = split_drop place.item.index place.item.production.symbols (Nonterminal q.nonterminal) after behind in
           let same : after ≡ rest = same_after q.nonterminal q.nonterminal after rest (sym behind ∙ rest_behind q.nonterminal b) in
@@ -208,7 +208,7 @@ module _ (g : Grammar) (start : NonterminalString) (states : List (State Bits)) 
           }
 
     -- ---- the loop
-    settled_kept : (old new : Carried) → ((e : Entry) → Contains old e → IsFound new e.0 e.1) → (place : Place) (tokens : Bits) → IsSettled g states old place tokens → IsSettled g states new place tokens
+    settled_kept : (old new : Carried) → ((e : Entry) → Contains old e → IsFound new e.0 e.1) → (place : Place) (tokens : Bits) → IsClosedAt g states old place tokens → IsClosedAt g states new place tokens
     settled_kept old new kept place tokens s = record {
       over = λ k o. found_kept old new kept k tokens (s.over k o);
       into = λ q after behind among.
@@ -222,7 +222,7 @@ module _ (g : Grammar) (start : NonterminalString) (states : List (State Bits)) 
           };
     }
 
-    module _ (place : Place) (old new : Carried) (queue pushed : List Place) (c : IsCarrying old (place ∷ queue)) (known : Contains (productions g) place.item.production) (v : Gives g states place old new queue pushed) where
+    module _ (place : Place) (old new : Carried) (queue pushed : List Place) (c : IsCarrying old (place ∷ queue)) (known : Contains (productions g) place.item.production) (v : CarriesFromPlace g states place old new queue pushed) where
       here : IsCarriedTo g start states place v.tokens
       here = c.sound (place, v.tokens) v.entry
 
@@ -235,18 +235,18 @@ module _ (g : Grammar) (start : NonterminalString) (states : List (State Bits)) 
       kept_on : (e : Entry) → Contains old e → IsFound new e.0 e.1
       kept_on e o = found_kept v.middle new v.into.adds.grows.kept e.0 e.1 (v.over.adds.grows.kept e o)
 
-      settled_here : IsSettled g states new place v.tokens
+      settled_here : IsClosedAt g states new place v.tokens
       settled_here = record {
         over = λ k o. found_kept v.middle new v.into.adds.grows.kept k v.tokens (v.over.adds.there k o);
         into = settles_into place v.tokens v.given here v.first v.fits v.middle new v.waiting pushed v.into known;
       }
 
-      popped : (e : Entry) → Contains old e → Contains (place ∷ queue) e.0 → Contains pushed e.0 ⊎ IsSettled g states new e.0 e.1
+      popped : (e : Entry) → Contains old e → Contains (place ∷ queue) e.0 → Contains pushed e.0 ⊎ IsClosedAt g states new e.0 e.1
       popped e o on = elim (contains-cons place queue e.0 on) [
         | inr s ↦ inl (v.into.adds.grows.stays e.0 (v.over.adds.grows.stays e.0 s))
         | inl same ↦
             let tokens : v.tokens ≡ e.1 = one_value old c.differ place v.tokens e.1 v.entry (subst (λ (x : Place). Contains old (x, e.1)) (sym same) o) in
-            inr (subst (λ (x : Place). IsSettled g states new x e.1) same (subst (IsSettled g states new place) tokens settled_here))
+            inr (subst (λ (x : Place). IsClosedAt g states new x e.1) same (subst (IsClosedAt g states new place) tokens settled_here))
       ]
 
       pub Carrying-step : IsCarrying new pushed
@@ -284,7 +284,7 @@ module _ (g : Grammar) (start : NonterminalString) (states : List (State Bits)) 
     abbrev eof : Bits
     eof = with_bit no_bits (length g.terminals)
 
-    start_carried : (k : Place) → IsBegunAt 0 (productions_of g start) k → IsCarriedTo g start states k eof
+    start_carried : (k : Place) → IsPlaceAtStart 0 (productions_of g start) k → IsCarriedTo g start states k eof
     start_carried k b =
         let p = k.item.production in
         let among = productions_among g start p b.among in
@@ -294,16 +294,16 @@ module _ (g : Grammar) (start : NonterminalString) (states : List (State Bits)) 
           reached = at_zero;
           listed = (closed.first p 0).1 (in_kernel (refl, among, named));
           carried = λ t held.
-              let only = (start_tokens g well own start p 0 t).0 (record { item = begun eof p; there = contains_map (begun eof) (productions_of g start) p b.among; is = refl; holds = held }) in
+              let only = (start_tokens g well own start p 0 t).0 (record { item = item_at_start eof p; there = contains_map (item_at_start eof) (productions_of g start) p b.among; is = refl; holds = held }) in
               subst (λ (u : Token). IsCarried (productions g) start S 0 p 0 u) (sym only.1) (eof_at_start p among named);
           fits = eof_fits g.terminals;
         })
 
-    pub Carrying-start : (tokens : Bits) (empty table : Carried) (none queue : List Place) → tokens ≡ eof → empty ≡ [] → none ≡ [] → Sends (IsBegunAt 0 (productions_of g start)) tokens empty table none queue → IsCarrying table queue
+    pub Carrying-start : (tokens : Bits) (empty table : Carried) (none queue : List Place) → tokens ≡ eof → empty ≡ [] → none ≡ [] → Sends (IsPlaceAtStart 0 (productions_of g start)) tokens empty table none queue → IsCarrying table queue
     Carrying-start tokens empty table none queue e f h s =
         let nothing : (x : Entry) → Contains empty x → ⊥ = λ x c. Contains-none x (subst (λ (xs : Carried). Contains xs x) f c) in
         record {
-          sound = sends_sound (IsBegunAt 0 (productions_of g start)) tokens empty table none queue s (λ k b. subst (IsCarriedTo g start states k) (sym e) (start_carried k b)) (λ x c. absurd (nothing x c));
+          sound = sends_sound (IsPlaceAtStart 0 (productions_of g start)) tokens empty table none queue s (λ k b. subst (IsCarriedTo g start states k) (sym e) (start_carried k b)) (λ x c. absurd (nothing x c));
           started = λ p among named.
               let t = s.adds.there (at_place 0 p 0) (record { state = refl; start = refl; among = subst (λ (a : NonterminalString). Contains (productions_of g a) p) named (own p among) }) in
               let own_bit : has eof (length g.terminals) ≡ true = has-with_bit no_bits (length g.terminals) (length g.terminals) ∙ ap (λ b. b || has no_bits (length g.terminals)) (eq-eqb (length g.terminals) (length g.terminals) refl) in

@@ -2,8 +2,8 @@
 use Rattle.std.proofs.Common.{◌≡◌, ◌<◌, ◌+◌, ◌-◌, ℕ, suc, inl, inr, List, [], ◌∷◌, ◌++◌, length, map, drop, refl, sym, ◌∙◌, ap, subst, arith, Some}
 use Rattle.std.specs.Prelude.{Contains, slice_get}
 use Rattle.std.proofs.lemmas.List.Elements.{Contains-append_left, Contains-append_right, Contains-append_cases, Contains-push_cases, Contains-push}
-use Rattle.lalrpop_base.specs.Words.{Bits, InClosure, in_kernel, expanded, IsAtStart, Dotted, IsWellFormed, productions, productions_of, IsBegun, IsExpansionOf}
-use Rattle.lalrpop_base.specs.Words.{IsMovedOf, AreClosure, AreOwn, begun_of, AllWait, Visits}
+use Rattle.lalrpop_base.specs.Words.{Bits, InClosure, in_kernel, expanded, IsAtStart, Dotted, IsWellFormed, productions, productions_of, IsOneAtStart, IsExpansionOf}
+use Rattle.lalrpop_base.specs.Words.{IsMovedOf, AreClosure, AreOwn, lr0_at_start, AllWait, Visits}
 use Rattle.lalrpop_check.proofs.Types.{Grammar, Nil, NonterminalString, Production, Symbol}
 use Rattle.lalrpop_grammar.specs.declared.repr.Symbol.TheVariants.{Nonterminal}
 use Rattle.lalrpop_states.specs.closures.Closure.{dotted_of}
@@ -20,12 +20,12 @@ abbrev Key : Type 0
 Key = Dotted Nil
 
 -- the productions of a list, one more
-pub Begun-none : (walk : Walk Key) → Visits (IsBegun []) walk walk
-Begun-none walk = Visits-none (IsBegun []) walk (λ k b. Contains-none k.production b.among)
+pub Begun-none : (walk : Walk Key) → Visits (IsOneAtStart []) walk walk
+Begun-none walk = Visits-none (IsOneAtStart []) walk (λ k b. Contains-none k.production b.among)
 
-pub Begun-more : (ps : List Production) (p : Production) (key : Key) (a b c : Walk Key) → key.production ≡ p → key.index ≡ 0 → Visits (IsBegun ps) a b → Visits (λ k. key ≡ k) b c → Visits (IsBegun (ps ++ p ∷ [])) a c
+pub Begun-more : (ps : List Production) (p : Production) (key : Key) (a b c : Walk Key) → key.production ≡ p → key.index ≡ 0 → Visits (IsOneAtStart ps) a b → Visits (λ k. key ≡ k) b c → Visits (IsOneAtStart (ps ++ p ∷ [])) a c
 Begun-more ps p key a b c is at x y =
-    Visits-then (IsBegun ps) (λ k. key ≡ k) (IsBegun (ps ++ p ∷ []))
+    Visits-then (IsOneAtStart ps) (λ k. key ≡ k) (IsOneAtStart (ps ++ p ∷ []))
     (λ k h. record { start = h.start; among = Contains-append_left ps (p ∷ []) k.production h.among })
     (λ k e. record { start = sym (ap (λ (d : Key). d.index) e) ∙ at; among = subst (Contains (ps ++ p ∷ [])) (sym is ∙ ap (λ (d : Key). d.production) e) (Contains-push ps p) })
     (λ k h. elim (Contains-push_cases ps p k.production h.among) [
@@ -35,14 +35,14 @@ Begun-more ps p key a b c is at x y =
     a b c x y
 
 -- the productions of the nonterminal after a dot
-pub Expansions-over : (g : Grammar) (item : Key) (name : NonterminalString) (a b : Walk Key) → slice_get item.production.symbols item.index ≡ Some (Nonterminal name) → Visits (IsBegun (productions_of g name)) a b → Visits (IsExpansionOf g item) a b
+pub Expansions-over : (g : Grammar) (item : Key) (name : NonterminalString) (a b : Walk Key) → slice_get item.production.symbols item.index ≡ Some (Nonterminal name) → Visits (IsOneAtStart (productions_of g name)) a b → Visits (IsExpansionOf g item) a b
 Expansions-over g item name a b behind x =
-    Visits-same (IsBegun (productions_of g name)) (IsExpansionOf g item)
+    Visits-same (IsOneAtStart (productions_of g name)) (IsExpansionOf g item)
     (λ k h. record { name = name; behind = behind; begun = h })
     (λ k h.
     let both : Some (Nonterminal h.name) ≡ Some (Nonterminal name) = sym h.behind ∙ behind in
     let same : h.name ≡ name = cc in
-    subst (λ (n : NonterminalString). IsBegun (productions_of g n) k) same h.begun)
+    subst (λ (n : NonterminalString). IsOneAtStart (productions_of g n) k) same h.begun)
     a b x
 
 pub Expansions-none : (g : Grammar) (item : Key) (walk : Walk Key) → ((name : NonterminalString) → slice_get item.production.symbols item.index ≡ Some (Nonterminal name) → ⊥) → Visits (IsExpansionOf g item) walk walk
@@ -100,7 +100,7 @@ module _ (g : Grammar) (base : List Key) where
     pub at : IsTraversing (Contains base) (IsExpansionOf g) InClosureOf done walk
 
   pub room : List Key
-  room = base ++ map begun_of (productions g)
+  room = base ++ map lr0_at_start (productions g)
 
   expansion_sound : IsWellFormed g → (item k : Key) → InClosureOf item → IsExpansionOf g item k → InClosureOf k
   expansion_sound well item k c e =
@@ -112,8 +112,8 @@ module _ (g : Grammar) (base : List Key) where
 
   in_room : (p : Production) (dot : ℕ) → InClosure (productions g) (Found base) p dot → Contains room (lr0 p dot)
   unfolding room
-  in_room p dot (in_kernel h) = Contains-append_left base (map begun_of (productions g)) (lr0 p dot) h
-  in_room p dot (expanded q after c behind among) = Contains-append_right base (map begun_of (productions g)) (begun_of q) (contains_map begun_of (productions g) q among)
+  in_room p dot (in_kernel h) = Contains-append_left base (map lr0_at_start (productions g)) (lr0 p dot) h
+  in_room p dot (expanded q after c behind among) = Contains-append_right base (map lr0_at_start (productions g)) (lr0_at_start q) (contains_map lr0_at_start (productions g) q among)
 
   pub Closing-start : (walk : Walk Key) → walk.visited.keys ≡ base → AllWait walk → IsClosing walk
   Closing-start walk same all = record {
@@ -150,9 +150,9 @@ Closure-of g Such none walk closed no_visits no_waits v c k =
       λ h. (c k).1 (InClosure-more (productions g) Such (Found walk.visited.keys) (λ p dot s. v.there (lr0 p dot) s) h),
     )
 
-pub Begun-start : (g : Grammar) (start : NonterminalString) → IsWellFormed g → AreOwn g → (a b : Walk Key) → Visits (IsBegun (productions_of g start)) a b → Visits (λ k. IsAtStart (productions g) start k.production k.index) a b
+pub Begun-start : (g : Grammar) (start : NonterminalString) → IsWellFormed g → AreOwn g → (a b : Walk Key) → Visits (IsOneAtStart (productions_of g start)) a b → Visits (λ k. IsAtStart (productions g) start k.production k.index) a b
 Begun-start g start well own a b v =
-    Visits-same (IsBegun (productions_of g start)) (λ k. IsAtStart (productions g) start k.production k.index)
+    Visits-same (IsOneAtStart (productions_of g start)) (λ k. IsAtStart (productions g) start k.production k.index)
     (λ k h. (h.start, productions_among g start k.production h.among, productions_named g well start k.production h.among))
     (λ k h. record { start = h.0; among = subst (λ (a : NonterminalString). Contains (productions_of g a) k.production) h.2 (own k.production h.1) })
     a b v

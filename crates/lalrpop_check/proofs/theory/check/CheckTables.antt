@@ -6,9 +6,9 @@ use Rattle.std.specs.BTreeSet.{BTreeSet}
 use Rattle.std.proofs.lemmas.Option.{slice_get_within, slice_get-map}
 use Rattle.lalrpop_base.specs.Words.{Bits, has, InClosure, in_kernel, expanded, IsMoved, items_of, AreClosed, AreCoherent, contents, contents_at, contents_of}
 use Rattle.lalrpop_base.specs.Words.{no_contents, reduction_of, holds_token, Dotted, AllDiffer, Contents, leads, IsBehindDot, LeadsOverDots, HasNoRepeat}
-use Rattle.lalrpop_base.specs.Words.{ReducesFinished, productions, HaveNoConflict, IsMovedIn, with_dot, IsTarget, IsRightItem, IsRightTarget, IsRightState, AreRightStates}
+use Rattle.lalrpop_base.specs.Words.{ReducesFinished, productions, AreAllConflictFree, IsMovedIn, with_dot, IsTarget, IsRightItem, IsRightTarget, IsRightState, AreRightStates}
 use Rattle.lalrpop_grammar.specs.conflicts.Conflicts.{HasNoConflict as HoldsNoConflict}
-use Rattle.lalrpop_states.specs.conflicts.StateConflicts.{HasNoConflict}
+use Rattle.lalrpop_states.specs.conflicts.StateConflicts.{IsConflictFree}
 use Rattle.lalrpop_grammar.specs.states.States.{Reduction}
 use Rattle.lalrpop_check.proofs.Types.{Grammar, Nil, NonterminalString, Production, State, Symbol, TerminalString, Token}
 use Rattle.lalrpop_grammar.specs.declared.lookahead.token.Token.TheVariants.{Terminal as TokenOf}
@@ -16,7 +16,7 @@ use Rattle.lalrpop_grammar.specs.declared.repr.Symbol.TheVariants.{Terminal}
 use Rattle.lalrpop_states.proofs.theory.states.ContentsViews.{LeadAsItemsSay, lead_as_items_say}
 use Rattle.lalrpop_collections.proofs.theory.lists.Lists.{some_of_map, contains_of_map}
 use Rattle.lalrpop_states.specs.closures.Closure.{dotted_of}
-use Rattle.lalrpop_states.specs.states.CheckStates.{dots, reduced, target_of, AreListed}
+use Rattle.lalrpop_states.specs.states.CheckStates.{dots, productions_of_reductions, target_of, AreListed}
 use Rattle.lalrpop_base.specs.Words.{target_from}
 use Rattle.lalrpop_construction.proofs.theory.canonical.Canonical.{InClosure-more}
 use Rattle.lalrpop_check.proofs.theory.check.CheckCarrying.{leads_in}
@@ -44,7 +44,7 @@ dots_length [] = refl
 dots_length (i ∷ items) = ap suc (dots_length items)
 
 -- ---- conflicts
-module _ (terminals : List TerminalString) (s : State Bits) (free : HasNoConflict terminals s) where
+module _ (terminals : List TerminalString) (s : State Bits) (free : IsConflictFree terminals s) where
   abbrev holds : Bits → Token → Bool
   holds = holds_token terminals
 
@@ -66,7 +66,7 @@ module _ (terminals : List TerminalString) (s : State Bits) (free : HasNoConflic
         free.reductions i j m.0 a.0 b.0 l a.1 b.1 m.2 (subst (λ (bit : ℕ). has (b.0).0 bit ≡ true) same n.2);
   }
 
-pub free_states : (terminals : List TerminalString) (states : List (State Bits)) → HaveNoConflict terminals states → (n : ℕ) → HoldsNoConflict (contents terminals states n)
+pub free_states : (terminals : List TerminalString) (states : List (State Bits)) → AreAllConflictFree terminals states → (n : ℕ) → HoldsNoConflict (contents terminals states n)
 free_states terminals states free n = at (slice_get states n) refl
   where
     at : (o : Option (State Bits)) → slice_get states n ≡ o → HoldsNoConflict (contents_at (holds_token terminals) o)
@@ -242,12 +242,12 @@ module _ (g : Grammar) (start : NonterminalString) (states : List (State Bits)) 
       | inr none ↦ subst ReducesFinished (sym none) (record { finished = λ p. (λ r. absurd (Contains-none r.0 r.1), λ c. absurd (Contains-none (p, length p.symbols) c)); once = λ i j r q l at_i at_j same. cc })
     ]
 
-    pub Right-free : HaveNoConflict g.terminals states
+    pub Right-free : AreAllConflictFree g.terminals states
     unfolding here_at
     Right-free n s e = (right_here n (here_at n s e)).free
 
   -- ---- to the conditions on each state
-  module _ (closed : AreClosed (productions g) start S) (reductions : (n : ℕ) → ReducesFinished (S n)) (free : HaveNoConflict g.terminals states) where
+  module _ (closed : AreClosed (productions g) start S) (reductions : (n : ℕ) → ReducesFinished (S n)) (free : AreAllConflictFree g.terminals states) where
     right_target : (m : ℕ) (h : IsHere m) → Contains targets m → IsRightTarget g h.state.items.vec.items h.set.keys
     unfolding here_at
     right_target m h c =
@@ -271,7 +271,7 @@ module _ (g : Grammar) (start : NonterminalString) (states : List (State Bits)) 
           );
         }
 
-    right_item : (n : ℕ) (h : IsHere n) (i : Dotted Bits) → Contains h.state.items.vec.items i → IsRightItem listed h.state (reduced h.state.reductions.items) i
+    right_item : (n : ℕ) (h : IsHere n) (i : Dotted Bits) → Contains h.state.items.vec.items i → IsRightItem listed h.state (productions_of_reductions h.state.reductions.items) i
     right_item n h i c =
         let item = (items_here n h i.production i.index).1 (contains_map dotted_of h.state.items.vec.items i c) in
         record {
@@ -290,10 +290,10 @@ module _ (g : Grammar) (start : NonterminalString) (states : List (State Bits)) 
               let r = ((reductions n).finished i.production).1 (subst (λ (k : ℕ). items_of S n i.production k) end item) in
               let there = subst (λ (x : Contents). Contains x.reductions r.0) (contents_here n h) r.1 in
               let q = contains_of_map (reduction_of holds_of) h.state.reductions.items r.0 there in
-              subst (Contains (reduced h.state.reductions.items)) (ap (λ (x : Reduction). x.production) q.2 ∙ r.2) (contains_map (λ (x : Bits × Bor Production). x.1.now) h.state.reductions.items q.0 q.1);
+              subst (Contains (productions_of_reductions h.state.reductions.items)) (ap (λ (x : Reduction). x.production) q.2 ∙ r.2) (contains_map (λ (x : Bits × Bor Production). x.1.now) h.state.reductions.items q.0 q.1);
         }
 
-    once_reduced : (n : ℕ) (h : IsHere n) → AllDiffer (reduced h.state.reductions.items)
+    once_reduced : (n : ℕ) (h : IsHere n) → AllDiffer (productions_of_reductions h.state.reductions.items)
     once_reduced n h i j p l at_i at_j =
         let rs = h.state.reductions.items in
         let by : Bits × Bor Production → Production = λ x. x.1.now in

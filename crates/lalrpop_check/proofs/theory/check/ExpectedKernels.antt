@@ -3,7 +3,7 @@ use Rattle.std.proofs.Common.{◌≡◌, ◌∙◌, ℕ, zero, suc, ◌<◌, ◌
 use Rattle.std.specs.Prelude.{◌↔◌, slice_get, Contains}
 use Rattle.std.proofs.lemmas.List.{length-map}
 use Rattle.std.proofs.lemmas.Option.{slice_get_within}
-use Rattle.lalrpop_base.specs.Words.{AreItemsBy, AreOwn, Dotted, InKernel, IsAtStart, IsWellFormed, Rules, productions_of, rules_of, begun}
+use Rattle.lalrpop_base.specs.Words.{AreItemsBy, AreOwn, Dotted, InKernel, IsAtStart, IsWellFormed, Rules, productions_of, rules_of, item_at_start}
 use Rattle.lalrpop_construction.specs.Words.{Construction}
 use Rattle.lalrpop_check.specs.Words.{AreMovedKernel, IsKernelOf, NumbersRise, no_tokens}
 use Rattle.lalrpop_base.specs.Words.{AreNumbered, AreNumbers, dotted_at, item_by, items_by, IsItemBy}
@@ -89,15 +89,15 @@ module _ (c : Construction Nil) (n : Numbers) (numbers : AreNumbers c.rules n) (
 
 -- ---- the kernel of the first state
 pub start_kernel : (c : Construction Nil) (n : Numbers) (kernel : List (Numbered Nil)) (g : Grammar) → rules_of g ≡ c.rules → productions_of g c.start ≡ c.first → IsWellFormed g → AreOwn g → AreNumbered n.items.items kernel →
-    AreItemsBy no_tokens c.rules (items_by n.items.items kernel) → items_by n.items.items kernel ≡ map (begun c.lookahead) c.first → IsKernelOf c n 0 kernel
+    AreItemsBy no_tokens c.rules (items_by n.items.items kernel) → items_by n.items.items kernel ≡ map (item_at_start c.lookahead) c.first → IsKernelOf c n 0 kernel
 start_kernel c n kernel g rules first well own known items made = record {
   known = known;
   items = items;
   is = record {
     first = λ _ p dot.
         let begins = start_items g well own c.start c.lookahead p dot in
-        subst (λ (is : List (Dotted Nil)). InKernel is p dot ↔ IsAtStart c.rules.productions c.start p dot) (ap (map (begun c.lookahead)) first ∙ sym made)
-        (subst (λ (r : Rules). InKernel (map (begun c.lookahead) (productions_of g c.start)) p dot ↔ IsAtStart r.productions c.start p dot) rules begins);
+        subst (λ (is : List (Dotted Nil)). InKernel is p dot ↔ IsAtStart c.rules.productions c.start p dot) (ap (map (item_at_start c.lookahead)) first ∙ sym made)
+        (subst (λ (r : Rules). InKernel (map (item_at_start c.lookahead) (productions_of g c.start)) p dot ↔ IsAtStart r.productions c.start p dot) rules begins);
     some = λ less. absurd (omega (arith, less));
     moved = λ less i c. absurd (omega (arith, less));
   };

@@ -32,7 +32,7 @@ module _ (g : Rules) (n : Numbers) (numbers : AreNumbers g n) where
   pub behind_of : (k : ℕ) (i : Dotted Nil) → slice_get known k ≡ Some i → Behind k i
   behind_of k i at =
       let l = slice_get_within known k i at in
-      let c = numbers.counted in
+      let c = n.counted in
       let f = filled n.behind.items k (omega arith) in
       record { number = f.0; at = f.1; is = numbers.behind k i f.0 at f.1 }
 

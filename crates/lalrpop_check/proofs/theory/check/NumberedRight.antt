@@ -7,21 +7,21 @@ use Rattle.std.proofs.lemmas.Bool.{cases_lt}
 use Rattle.std.proofs.lemmas.List.{length-map}
 use Rattle.std.proofs.lemmas.Option.{slice_get_within, slice_get-map}
 use Rattle.lalrpop_base.specs.Words.{AllDiffer, AreCoherent, Bits, Dotted, InKernel, IsAtStart, contents_at, in_kernel, contents_of, leads, productions, rules_of}
-use Rattle.lalrpop_base.specs.Words.{HaveNoConflict, IsMovedIn, IsReached, IsRightItem, IsRightState, IsRightTarget, IsTarget, AreRightStates, at_zero, with_dot}
+use Rattle.lalrpop_base.specs.Words.{AreAllConflictFree, IsMovedIn, IsReached, IsRightItem, IsRightState, IsRightTarget, IsTarget, AreRightStates, at_zero, with_dot}
 use Rattle.lalrpop_base.specs.Words.{AreNumbers, AreClosure}
 use Rattle.lalrpop_grammar.specs.closures.Closures.{over_edge}
 use Rattle.lalrpop_states.specs.closures.Closure.{dotted_of}
-use Rattle.lalrpop_states.specs.states.CheckStates.{AreListed, IsListed, dots, reduced, target_of}
+use Rattle.lalrpop_states.specs.states.CheckStates.{AreListed, IsListed, dots, productions_of_reductions, target_of}
 use Rattle.lalrpop_check.proofs.Types.{Grammar, Nil, NonterminalString, Production, State, Symbol, Token}
 use Rattle.lalrpop_grammar.specs.declared.repr.Symbol.TheVariants.{Nonterminal, Terminal}
 use Rattle.lalrpop_collections.proofs.theory.lists.Members.{Contains-none, contains-cons, contains_head, contains_map, contains_tail, place}
 use Rattle.lalrpop_collections.proofs.theory.lists.Places.{contains_at, filled, one_place, same_some}
 use Rattle.lalrpop_states.proofs.theory.states.ContentsViews.{lead_as_items_say}
 use Rattle.lalrpop_collections.proofs.theory.lists.Lists.{contains_of_map, some_of_map}
-use Rattle.lalrpop_check.specs.check.ByNumber.{AllLeadOn, AreListedByNumber, AreReachedByNumber, IsListedState, IsReachedByNumber, LeadsOver, at_first, over_transition}
-use Rattle.lalrpop_follow_sets.specs.follow_sets.FollowNodes.{AreAllReached, AreOfGrammar}
+use Rattle.lalrpop_check.specs.check.ByNumber.{AllItemsLeadOn, AreListedByNumber, AreReachedByNumber, IsListedState, IsReachedByNumber, LeadsByNumber, at_first, over_transition}
+use Rattle.lalrpop_follow_sets.specs.follow_sets.FollowNodes.{AreAllReached, AreItemsOfGrammar}
 use Rattle.lalrpop_construction.specs.states.SamePlaces.{places_in}
-use Rattle.lalrpop_construction.specs.states.NumberedStates.{AreNumberedStates, items_at, listed_items, listed_transitions, transitions_at}
+use Rattle.lalrpop_construction.specs.states.NumberedStates.{AreNumberedStates, item_numbers_at, listed_items, listed_transitions, transitions_at}
 use Rattle.lalrpop_numbers.specs.declared.numbers.Numbers.{Numbers}
 use Rattle.lalrpop_construction.specs.declared.construction.numbered_state.NumberedState.{NumberedState}
 use Rattle.lalrpop_construction.proofs.theory.canonical.Canonical.{InClosure-more}
@@ -150,7 +150,7 @@ module _ (g : Grammar) (n : Numbers) (numbers : AreNumbers (rules_of g) n) (star
         back p (suc d) m = past_in_kernel (productions g) (InKernel h.kernel) d refl ((h.closed p (suc d)).0 m.1)
 
     -- each finished item is reduced
-    pub finished_reduced : (i : Dotted Bits) → Contains old.items.vec.items i → i.index ≡ length i.production.symbols → Contains (reduced old.reductions.items) i.production
+    pub finished_reduced : (i : Dotted Bits) → Contains old.items.vec.items i → i.index ≡ length i.production.symbols → Contains (productions_of_reductions old.reductions.items) i.production
     finished_reduced i c end =
         let k = number_of_item i c in
         let none = behind_none (rules_of g) n numbers k.number (with_dot i.production i.index) k.at end in
@@ -158,11 +158,11 @@ module _ (g : Grammar) (n : Numbers) (numbers : AreNumbers (rules_of g) n) (star
         let counted = h.over.reduced.counted in
         let r = filled old.reductions.items f.0 (omega (arith, f.1, counted)) in
         let same = same_some (with_dot (r.0).1.now (length (r.0).1.now.symbols)) (with_dot i.production i.index) (sym (h.over.reduced.each f.0 k.number r.0 r.1 f.2) ∙ k.at) in
-        subst (Contains (reduced old.reductions.items)) (one_production (r.0).1.now i.production (length (r.0).1.now.symbols) i.index same)
+        subst (Contains (productions_of_reductions old.reductions.items)) (one_production (r.0).1.now i.production (length (r.0).1.now.symbols) i.index same)
         (contains_map (λ (q : Bits × Bor Production). q.1.now) old.reductions.items r.0 (contains_at old.reductions.items r.0 f.0 r.1))
 
     -- each finished item is reduced once
-    pub reduced_once : AllDiffer (reduced old.reductions.items)
+    pub reduced_once : AllDiffer (productions_of_reductions old.reductions.items)
     reduced_once i j p l at_i at_j =
         let by : Bits × Bor Production → Production = λ q. q.1.now in
         let a = some_of_map by (slice_get old.reductions.items i) p (sym (slice_get-map by old.reductions.items i) ∙ at_i) in
@@ -221,7 +221,7 @@ module _ (g : Grammar) (n : Numbers) (numbers : AreNumbers (rules_of g) n) (star
     all_reached reached s l = let c = listed.counted in reached_of (reached s (omega (arith, l, c)))
 
     -- the dotted productions of the states are of the grammar
-    pub of_grammar : AreOfGrammar (productions g) (places_in states)
+    pub of_grammar : AreItemsOfGrammar (productions g) (places_in states)
     of_grammar s q dot c = go (slice_get states s) refl c
       where
         go : (o : Option (State Bits)) → slice_get states s ≡ o → Contains (contents_at (λ (lookahead : Bits) (t : Token). true) o).items (q, dot) → Contains (productions g) q × (dot ≤ length q.symbols)
@@ -236,14 +236,14 @@ module _ (g : Grammar) (n : Numbers) (numbers : AreNumbers (rules_of g) n) (star
     numbered_states = Listed-numbered (rules_of g) start n states list listed
 
     -- ---- the conditions on each state
-    module _ (coherent : AreCoherent states) (free : HaveNoConflict g.terminals states) (lead : AllLeadOn n list) (reached : AreReachedByNumber list) (none : IsTarget states 0 → ⊥) where
+    module _ (coherent : AreCoherent states) (free : AreAllConflictFree g.terminals states) (lead : AllItemsLeadOn n list) (reached : AreReachedByNumber list) (none : IsTarget states 0 → ⊥) where
       abbrev pub sets : List (BTreeSet (Dotted Nil))
       sets = map keys_of_state states
 
       abbrev pub targets : List ℕ
       targets = positive (length states - 1)
 
-      item_there : (m k : ℕ) (p : Production) (dot : ℕ) → slice_get known k ≡ Some (with_dot p dot) → Contains (items_at list m) k → IsListed sets m (with_dot p dot)
+      item_there : (m k : ℕ) (p : Production) (dot : ℕ) → slice_get known k ≡ Some (with_dot p dot) → Contains (item_numbers_at list m) k → IsListed sets m (with_dot p dot)
       item_there m k p dot at c = go (slice_get list m) refl c
         where
           go : (o : Option NumberedState) → slice_get list m ≡ o → Contains (listed_items o) k → IsListed sets m (with_dot p dot)
@@ -256,7 +256,7 @@ module _ (g : Grammar) (n : Numbers) (numbers : AreNumbers (rules_of g) n) (star
                 has = (keys_list o.old (with_dot p dot)).1 (as_listed m o.old state o.is p dot k at d);
               }
 
-      right_item : (s : ℕ) (old : State Bits) → slice_get states s ≡ Some old → (i : Dotted Bits) → Contains old.items.vec.items i → IsRightItem sets old (reduced old.reductions.items) i
+      right_item : (s : ℕ) (old : State Bits) → slice_get states s ≡ Some old → (i : Dotted Bits) → Contains old.items.vec.items i → IsRightItem sets old (productions_of_reductions old.reductions.items) i
       right_item s old at i c =
           let f = number_at s old at in
           let is = listed.each s old f.0 at f.1 in
@@ -264,7 +264,7 @@ module _ (g : Grammar) (n : Numbers) (numbers : AreNumbers (rules_of g) n) (star
           record {
             shifts = λ x there.
                 let b = behind_some (rules_of g) n numbers k.number (with_dot i.production i.index) x k.at there in
-                let o : LeadsOver list f.0.edges.items k.number b.number = lead s f.0 f.1 k.number k.among b.number b.at in
+                let o : LeadsByNumber list f.0.edges.items k.number b.number = lead s f.0 f.1 k.number k.among b.number b.at in
                 let within = slice_get_within i.production.symbols i.index x there in
                 record {
                   to = o.target;

@@ -12,7 +12,7 @@ use Rattle.lalrpop_collections.proofs.theory.lists.Zipped.{push_both, push_count
 use Rattle.lalrpop_collections.proofs.theory.lists.Places.{filled, put_other}
 use Rattle.lalrpop_check.specs.check.ByNumber.{AreListedByNumber, AreMarkedReached, HoldSets, HoldsUnion, IsListedState, ListsClosure, IsReachedByNumber, MarksTarget, MarksTargets, over_transition}
 use Rattle.lalrpop_follow_sets.specs.follow_sets.FollowWalks.{AreUnions}
-use Rattle.lalrpop_construction.specs.states.NumberedStates.{AreItemsAt, AreNumberedStates, IsNumberedState, listed_transitions, number_in}
+use Rattle.lalrpop_construction.specs.states.NumberedStates.{AreItemsAt, AreNumberedStates, IsNumberedState, listed_transitions, item_number}
 use Rattle.lalrpop_numbers.specs.declared.numbers.numbered.Numbered.{Numbered}
 use Rattle.lalrpop_numbers.specs.declared.numbers.Numbers.{Numbers}
 use Rattle.lalrpop_construction.specs.declared.construction.numbered_state.NumberedState.{NumberedState}
@@ -36,11 +36,11 @@ Listed-more g start n done old list state before is = record {
 
 -- a state lists a closure if its items have the numbers of the closure
 pub Listed-closure : (g : Rules) (known : List (Dotted Nil)) (kernel : List (Dotted Nil)) (list : List (Numbered Nil)) (old : State Bits) → AreNumbered known list → ((p : Production) (dot : ℕ) → InKernel (items_by known list) p dot ↔ InClosure g.productions (InKernel kernel) p dot) →
-    AreItemsAt known (map number_in list) old.items.vec.items → ListsClosure g kernel old
+    AreItemsAt known (map item_number list) old.items.vec.items → ListsClosure g kernel old
 Listed-closure g known kernel list old within exact at p dot =
     let own = items_at_by known list within in (
-      λ c. (exact p dot).0 (same_dots known (map number_in list) old.items.vec.items (items_by known list) at own p dot c),
-      λ h. same_dots known (map number_in list) (items_by known list) old.items.vec.items own at p dot ((exact p dot).1 h),
+      λ c. (exact p dot).0 (same_dots known (map item_number list) old.items.vec.items (items_by known list) at own p dot c),
+      λ h. same_dots known (map item_number list) (items_by known list) old.items.vec.items own at p dot ((exact p dot).1 h),
     )
 
 -- the listed states are the states by number

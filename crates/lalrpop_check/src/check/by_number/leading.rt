@@ -1,7 +1,6 @@
 //! Tests whether the symbols after dots lead to states that list the moved items.
 ghost use Rattle.std.specs.Prelude.{◌≡◌, ◌<◌, ℕ, length, slice_get, Some, Contains, IsTrue};
-ghost use Rattle.lalrpop_base.specs.Words.{Rules, AreNumbers};
-ghost use Rattle.lalrpop_check.specs.check.ByNumber.{AllLeadOn, LeadOn, LeadsOn};
+ghost use Rattle.lalrpop_check.specs.check.ByNumber.{AllItemsLeadOn, ItemsLeadOn, LeadsOnByNumber};
 ghost use Rattle.lalrpop_construction.specs.states.NumberedStates.{EdgesAscend};
 ghost use Rattle.lalrpop_construction.specs.declared.construction.numbered_state.NumberedState.{NumberedState as ByNumbers};
 
@@ -34,10 +33,9 @@ fn leads_on(
     edges: &[(usize, usize)],
     item: usize,
 ) -> bool
-    requires numbers { (g : Rules) × AreNumbers g numbers.now }
     requires ascend { EdgesAscend edges.now }
     requires known { item < length numbers.now.items.items }
-    ensures { IsTrue result → LeadsOn numbers.now states.now edges.now item }
+    ensures { IsTrue result → LeadsOnByNumber numbers.now states.now edges.now item }
 {
     let Some(symbol) = numbers.behind[item] else {
         return true;
@@ -55,12 +53,10 @@ fn leads_on(
 // Whether the symbols after the dots of all items of a state lead to states that list the moved
 // items.
 fn lead_on(numbers: &Numbers<'_>, states: &[NumberedState], state: &NumberedState) -> bool
-    requires numbers { (g : Rules) × AreNumbers g numbers.now }
-    requires ascend { EdgesAscend state.now.edges.items }
-    requires known { (k : ℕ) →
+    requires { (k : ℕ) →
         Contains state.now.items.items k →
         k < length numbers.now.items.items }
-    ensures { IsTrue result → LeadOn numbers.now states.now state.now }
+    ensures { IsTrue result → ItemsLeadOn numbers.now states.now state.now }
 {
     for item in &state.items {
         if !leads_on(numbers, states, &state.edges, *item) {
@@ -73,15 +69,11 @@ fn lead_on(numbers: &Numbers<'_>, states: &[NumberedState], state: &NumberedStat
 /// Whether the symbols after the dots of all items of all states lead to states that list the moved
 /// items.
 pub(super) fn all_lead_on(numbers: &Numbers<'_>, states: &[NumberedState]) -> bool
-    requires numbers { (g : Rules) × AreNumbers g numbers.now }
-    requires ascend { (s : ℕ) (state : ByNumbers) →
-        slice_get states.now s ≡ Some state →
-        EdgesAscend state.edges.items }
-    requires known { (s k : ℕ) (state : ByNumbers) →
+    requires { (s k : ℕ) (state : ByNumbers) →
         slice_get states.now s ≡ Some state →
         Contains state.items.items k →
         k < length numbers.now.items.items }
-    ensures { IsTrue result → AllLeadOn numbers.now states.now }
+    ensures { IsTrue result → AllItemsLeadOn numbers.now states.now }
 {
     for state in states {
         if !lead_on(numbers, states, state) {

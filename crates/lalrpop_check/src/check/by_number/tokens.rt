@@ -12,7 +12,7 @@ use lalrpop_base::memory::OutOfMemory;
 use lalrpop_base::repr::Production;
 use lalrpop_base::repr::grammar::Grammar;
 use lalrpop_construction::construction::numbered_state::NumberedState;
-use lalrpop_follow_sets::follow_sets::Found;
+use lalrpop_follow_sets::follow_sets::FollowSets;
 use std::alloc::Global;
 
 // Whether a set holds all tokens of another.
@@ -48,7 +48,7 @@ pub(super) fn hold_lookaheads<'grammar>(
     alloc: Global,
     grammar: &'grammar Grammar,
     states: &[Lr1State<'grammar>],
-    found: &Found,
+    found: &FollowSets,
     numbered: &[NumberedState],
 ) -> Result<bool, OutOfMemory>
     requires counted { length numbered.now ≡ length states.now }

@@ -132,9 +132,7 @@ impl Kernels {
         numbers: &Numbers<'_>,
         count: usize,
         state: &NumberedState,
-    ) -> Result<(), OutOfMemory>
-        requires { EdgesAscend state.now.edges.items }
-    {
+    ) -> Result<(), OutOfMemory> {
         for item in &state.items {
             self.add_move(numbers, count, &state.edges, *item)?;
         }

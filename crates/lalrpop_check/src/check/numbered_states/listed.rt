@@ -5,7 +5,7 @@ ghost use Rattle.lalrpop_check.specs.check.ExpectedKernels.{IsKernelOf, no_token
 ghost use Rattle.lalrpop_check.specs.check.ByNumber.{AreListedByNumber, IsListedOver, ListsClosure};
 
 use super::kernels::Kernels;
-use super::transitions::{are_items, are_reductions, take_gotos, take_shifts};
+use super::transitions::{are_items, are_reductions, take_edges};
 use lalrpop_base::collections::sparse_map::SparseMap;
 use lalrpop_base::lookahead::nil::Nil;
 use lalrpop_base::lr1_core::state::Lr1State;
@@ -25,8 +25,7 @@ fn add_symbol(
     item: usize,
     symbols: &mut SparseMap<Nil>,
 ) -> Result<(), OutOfMemory>
-    requires numbers { (g : Rules) × AreNumbers g numbers.now }
-    requires known { item < length numbers.now.items.items }
+    requires { item < length numbers.now.items.items }
 {
     if let Some(symbol) = numbers.behind[item] {
         symbols.join(symbol, Nil)?;
@@ -41,8 +40,7 @@ fn symbols_behind(
     items: &[usize],
     symbols: &mut SparseMap<Nil>,
 ) -> Result<Vec<(usize, Nil)>, OutOfMemory>
-    requires numbers { (g : Rules) × AreNumbers g numbers.now }
-    requires known { (k : ℕ) → Contains items.now k → k < length numbers.now.items.items }
+    requires { (k : ℕ) → Contains items.now k → k < length numbers.now.items.items }
     ensures { IfOk result (λ symbols. NumbersAscend symbols.items) }
 {
     for item in items {
@@ -71,10 +69,10 @@ fn state_over<'grammar>(
         return Ok(None);
     }
     let mut edges = Vec::with_capacity(alloc, symbols.len())?;
-    if !take_gotos(&numbers.symbols, symbols, &state.gotos, &mut edges)? {
+    if !take_edges(&numbers.symbols, symbols, &state.gotos, &mut edges)? {
         return Ok(None);
     }
-    if !take_shifts(&numbers.symbols, symbols, &state.shifts, &mut edges)? {
+    if !take_edges(&numbers.symbols, symbols, &state.shifts, &mut edges)? {
         return Ok(None);
     }
     let reductions = finished_of(alloc, numbers, &items)?;

@@ -1,11 +1,14 @@
 //! Tests whether items, transitions and reductions have the numbers that are expected of them.
-ghost use Rattle.std.specs.Prelude.{◌≡◌, slice_get, Some, IfOk, IfSome, IsTrue, OnOk};
-ghost use Rattle.lalrpop_base.specs.Words.{with_dot};
-ghost use Rattle.lalrpop_construction.specs.states.NumberedStates.{AddsGotos, AddsShifts, AreItemsAt, AreReducedNumbers, HasKeys, IsKeyAt};
+ghost use Rattle.std.specs.Prelude.{◌≡◌, map, slice_get, Some, IfOk, IfSome, IsTrue, OnOk};
+ghost use Rattle.lalrpop_base.specs.Words.{symbol_of_ref, with_dot};
+ghost use Rattle.lalrpop_grammar.specs.declared.repr.Symbol.{Symbol as Symbols};
+ghost use Rattle.lalrpop_grammar.specs.declared.repr.Symbol.TheVariants.{Nonterminal, Terminal};
+ghost use Rattle.lalrpop_construction.specs.states.NumberedStates.{AddsEdges, AreItemsAt, AreReducedNumbers, HasKeys, IsKeyAt};
 
 use lalrpop_base::exact::equal;
 use lalrpop_base::lookahead::nil::Nil;
 use lalrpop_base::lookahead::token_set::TokenSet;
+use lalrpop_base::lr1_core::SymbolRef;
 use lalrpop_base::lr1_core::item::Lr1Item;
 use lalrpop_base::lr1_core::state::StateIndex;
 use lalrpop_base::memory::OutOfMemory;
@@ -67,29 +70,43 @@ pub(super) fn are_reductions<'grammar>(
     true
 }
 
-// Whether a number is that of a nonterminal.
-fn is_number_of_name(symbols: &[Symbol], number: usize, name: &NonterminalString) -> bool
-    ensures { IsTrue result → slice_get symbols.now number ≡ Some (Symbol.Nonterminal name.now) }
-{
-    if number >= symbols.len() {
-        return false;
-    }
-    match &symbols[number] {
-        Symbol::Nonterminal(met) => equal(met, name),
-        Symbol::Terminal(_) => false,
+/// The name of a symbol.
+pub(super) trait Name: Ord {
+    // The symbol that has the name.
+    ghost symbol: { Self → Symbols };
+
+    /// The name, as a symbol.
+    fn as_symbol(&self) -> SymbolRef<'_>
+        ensures { symbol_of_ref result ≡ symbol self.now };
+}
+
+impl Name for NonterminalString {
+    ghost symbol = { Nonterminal };
+
+    fn as_symbol(&self) -> SymbolRef<'_> {
+        SymbolRef::Nonterminal(self)
     }
 }
 
-// Whether a number is that of a terminal.
-fn is_number_of_terminal(symbols: &[Symbol], number: usize, terminal: &TerminalString) -> bool
-    ensures { IsTrue result → slice_get symbols.now number ≡ Some (Symbol.Terminal terminal.now) }
+impl Name for TerminalString {
+    ghost symbol = { Terminal };
+
+    fn as_symbol(&self) -> SymbolRef<'_> {
+        SymbolRef::Terminal(self)
+    }
+}
+
+// Whether a number is that of a symbol.
+fn is_number_of_symbol(symbols: &[Symbol], number: usize, symbol: SymbolRef<'_>) -> bool
+    ensures { IsTrue result → slice_get symbols.now number ≡ Some (symbol_of_ref symbol.entry) }
 {
     if number >= symbols.len() {
         return false;
     }
-    match &symbols[number] {
-        Symbol::Nonterminal(_) => false,
-        Symbol::Terminal(met) => equal(met, terminal),
+    match (&symbols[number], symbol) {
+        (Symbol::Nonterminal(met), SymbolRef::Nonterminal(name)) => equal(met, name),
+        (Symbol::Terminal(met), SymbolRef::Terminal(terminal)) => equal(met, terminal),
+        _ => false,
     }
 }
 
@@ -104,48 +121,25 @@ fn expected_at(expected: &[(usize, Nil)], place: usize) -> Option<usize>
     }
 }
 
-/// Appends the gotos of a state to `edges`, up to the first goto that does not have the expected
-/// number. Returns whether all gotos have their expected numbers.
-pub(super) fn take_gotos(
+/// Appends the gotos or the shifts of a state to `edges`, up to the first that does not have the
+/// expected number. Returns whether all of them have their expected numbers.
+pub(super) fn take_edges<K: Name>(
     symbols: &[Symbol],
     expected: &[(usize, Nil)],
-    gotos: &BTreeMap<NonterminalString, StateIndex>,
+    targets: &BTreeMap<K, StateIndex>,
     edges: &mut Vec<(usize, usize)>,
 ) -> Result<bool, OutOfMemory>
     ensures taken { IfOk result (λ yes. IsTrue yes →
-        AddsGotos symbols.now edges.old.items edges.new.items gotos.now.entries) }
+        AddsEdges symbols.now edges.old.items edges.new.items
+        (map (λ (e : K × StateIndex). (K.symbol e.0, e.1)) targets.now.entries)) }
     ensures keys { OnOk result
         (HasKeys edges.old.items expected.now → HasKeys edges.new.items expected.now) }
 {
-    for (name, target) in gotos.iter() {
+    for (name, target) in targets.iter() {
         let Some(number) = expected_at(expected, edges.len()) else {
             return Ok(false);
         };
-        if !is_number_of_name(symbols, number, name) {
-            return Ok(false);
-        }
-        edges.push((number, target.0))?;
-    }
-    Ok(true)
-}
-
-/// Does the same as `take_gotos` for the shifts of a state.
-pub(super) fn take_shifts(
-    symbols: &[Symbol],
-    expected: &[(usize, Nil)],
-    shifts: &BTreeMap<TerminalString, StateIndex>,
-    edges: &mut Vec<(usize, usize)>,
-) -> Result<bool, OutOfMemory>
-    ensures taken { IfOk result (λ yes. IsTrue yes →
-        AddsShifts symbols.now edges.old.items edges.new.items shifts.now.entries) }
-    ensures keys { OnOk result
-        (HasKeys edges.old.items expected.now → HasKeys edges.new.items expected.now) }
-{
-    for (terminal, target) in shifts.iter() {
-        let Some(number) = expected_at(expected, edges.len()) else {
-            return Ok(false);
-        };
-        if !is_number_of_terminal(symbols, number, terminal) {
+        if !is_number_of_symbol(symbols, number, name.as_symbol()) {
             return Ok(false);
         }
         edges.push((number, target.0))?;

@@ -8,7 +8,7 @@ use Rattle.std.specs.Cmp.{IsTotalOrder, Equal-is, eq_by_cmp_equiv}
 use Rattle.std.specs.Map.{lookup}
 use Rattle.std.specs.BTreeMap.{is_at}
 use Rattle.std.proofs.lemmas.Bool.{cases_Bool}
-use Rattle.lalrpop_collections.specs.Words.{collection_at, PushesAt, PushesAll, IsCollected, values_at, SameAt, AreSame, at_itself}
+use Rattle.lalrpop_collections.specs.Words.{collection_at, PushesAt, PushesAll, IsCollectionOf, values_at, SameAt, AreSame, at_itself}
 
 -- equal keys have one collection
 pub tied_at : {K C : Type 0} {cmp : K → K → Ordering} → IsTotalOrder cmp → (k q : K) → cmp k q ≡ Equal → (es : List (K × C)) → collection_at cmp es q ≡ collection_at cmp es k
@@ -51,7 +51,7 @@ module _ {C I : Type 0} (IsNone : C → Type 0) (Pushes : C → I → C → Type
   all_and_one old next new (v ∷ values) value all pushed = (all.0, all.1, all_and_one all.0 next new values value all.2 pushed)
 
   -- a push into a collection of values collects one value more
-  pub collected_and_one : (values : List I) (value : I) (old new : Option C) → IsCollected IsNone Pushes values old → PushesAt IsNone Pushes old value new → IsCollected IsNone Pushes (values ++ value ∷ []) new
+  pub collected_and_one : (values : List I) (value : I) (old new : Option C) → IsCollectionOf IsNone Pushes values old → PushesAt IsNone Pushes old value new → IsCollectionOf IsNone Pushes (values ++ value ∷ []) new
   collected_and_one values value None None collected pushed = absurd pushed
   collected_and_one values value (Some old) None collected pushed = absurd pushed
   collected_and_one [] value (Some old) (Some new) collected pushed = absurd collected
@@ -84,10 +84,10 @@ apart_back {cmp = cmp} total q k apart = ((eq_by_cmp_equiv total).symm k q) ∙ 
 
 -- one more pair is pushed into the map that the earlier ones made
 pub pairs_and_one : {K C I : Type 0} {cmp : K → K → Ordering} (IsNone : C → Type 0) (Pushes : C → I → C → Type 0) → IsTotalOrder cmp → (pairs : List (K × I)) (key : K) (value : I) (old new : List (K × C)) →
-    ((q : K) → IsCollected IsNone Pushes (values_at cmp q pairs) (collection_at cmp old q)) →
+    ((q : K) → IsCollectionOf IsNone Pushes (values_at cmp q pairs) (collection_at cmp old q)) →
     PushesAt IsNone Pushes (collection_at cmp old key) value (collection_at cmp new key) →
     ((q : K) → is_eq (cmp key q) ≡ false → collection_at cmp new q ≡ collection_at cmp old q) →
-    (q : K) → IsCollected IsNone Pushes (values_at cmp q (pairs ++ (key, value) ∷ [])) (collection_at cmp new q)
+    (q : K) → IsCollectionOf IsNone Pushes (values_at cmp q (pairs ++ (key, value) ∷ [])) (collection_at cmp new q)
 pairs_and_one {C = C} {cmp = cmp} IsNone Pushes total pairs key value old new collected pushed others q =
     ⊎_elim
     (λ tied. let tie : cmp q key ≡ Equal = (Equal-is (cmp q key)).0 tied in

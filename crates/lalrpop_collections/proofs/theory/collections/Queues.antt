@@ -9,7 +9,7 @@ use Rattle.std.proofs.lemmas.List.Folds.{list_any-append}
 use Rattle.std.proofs.lemmas.List.Elements.{Contains-append_left}
 use Rattle.std.proofs.lemmas.Map.Keys.{IsDistinct-head, IsDistinct-tail, IsDistinct-push}
 use Rattle.std.proofs.lemmas.Map.Steps.{length-le_from_distinct_below}
-use Rattle.lalrpop_collections.specs.Words.{IsMarked, waits}
+use Rattle.lalrpop_collections.specs.Words.{HasWaitingMarks, waits}
 use Rattle.lalrpop_collections.proofs.theory.lists.Members.{contains-cons, contains_head, contains_tail}
 use Rattle.lalrpop_collections.specs.lists.Entries.{IsPut}
 use Rattle.lalrpop_collections.specs.lists.Entries.IsPut.{came, waited}
@@ -32,18 +32,18 @@ mark_within marks k h = elim (cases_lt k (length marks)) [
   | inr past ↦ absurd (false≢true (sym (get_or_past marks k false past) ∙ h))
 ]
 
-pub waits_within : (numbers : List ℕ) (marks : List Bool) → IsMarked numbers marks → (k : ℕ) → waits numbers k ≡ true → k < length marks
+pub waits_within : (numbers : List ℕ) (marks : List Bool) → HasWaitingMarks numbers marks → (k : ℕ) → waits numbers k ≡ true → k < length marks
 waits_within numbers marks m k h = mark_within marks k (sym (m.marked k) ∙ h)
 
 -- no more numbers wait than there are marks
-pub Marked-few : (numbers : List ℕ) (marks : List Bool) → IsMarked numbers marks → length numbers ≤ length marks
+pub Marked-few : (numbers : List ℕ) (marks : List Bool) → HasWaitingMarks numbers marks → length numbers ≤ length marks
 Marked-few numbers marks m = length-le_from_distinct_below numbers (length marks) m.once (λ q h. waits_within numbers marks m q h)
 
 -- one number more waits after the others
 pub waits-push : (numbers : List ℕ) (n k : ℕ) → waits (numbers ++ n ∷ []) k ≡ ((k == n) || waits numbers k)
 waits-push numbers n k = list_any-append (λ x. k == x) numbers (n ∷ []) ∙ ap (λ b. waits numbers k || b) (or_false (k == n)) ∙ or_turned (waits numbers k) (k == n)
 
-pub Marked-added : (numbers more : List ℕ) (marks : List Bool) (n : ℕ) → more ≡ numbers ++ n ∷ [] → IsMarked numbers marks → n < length marks → get_or marks n false ≡ false → IsMarked more (set marks n true)
+pub Marked-added : (numbers more : List ℕ) (marks : List Bool) (n : ℕ) → more ≡ numbers ++ n ∷ [] → HasWaitingMarks numbers marks → n < length marks → get_or marks n false ≡ false → HasWaitingMarks more (set marks n true)
 Marked-added numbers more marks n is m within free = rw is (record {
   marked = λ k. waits-push numbers n k ∙ at k;
   once = IsDistinct-push nat_eq_equiv numbers n m.once (m.marked n ∙ free);
@@ -60,7 +60,7 @@ none_of : (n : ℕ) (numbers : List ℕ) → AllByRecursion (λ y. (n == y) ≡ 
 none_of n [] h = refl
 none_of n (x ∷ numbers) h = ap (λ b. b || waits numbers n) h.0 ∙ none_of n numbers h.1
 
-pub Marked-taken : (numbers rest : List ℕ) (marks : List Bool) (n : ℕ) → numbers ≡ n ∷ rest → IsMarked numbers marks → IsMarked rest (set marks n false)
+pub Marked-taken : (numbers rest : List ℕ) (marks : List Bool) (n : ℕ) → numbers ≡ n ∷ rest → HasWaitingMarks numbers marks → HasWaitingMarks rest (set marks n false)
 Marked-taken numbers rest marks n is m = record { marked = at; once = IsDistinct-tail _ n rest once }
   where
     once : IsDistinct (λ x y. x == y) (n ∷ rest)
@@ -78,11 +78,11 @@ Marked-taken numbers rest marks n is m = record { marked = at; once = IsDistinct
       | inr apart ↦ sym (ap (λ b. b || waits rest k) (ne_eqb k n apart)) ∙ marked k ∙ sym (get_or-set_other marks n k false false apart)
     ]
 
-pub taken_within : (numbers rest : List ℕ) (marks : List Bool) (n : ℕ) → numbers ≡ n ∷ rest → IsMarked numbers marks → n < length marks
+pub taken_within : (numbers rest : List ℕ) (marks : List Bool) (n : ℕ) → numbers ≡ n ∷ rest → HasWaitingMarks numbers marks → n < length marks
 taken_within numbers rest marks n is m = waits_within numbers marks m n (ap (λ xs. waits xs n) is ∙ or_left (n == n) (waits rest n) (eq-eqb n n refl))
 
 -- no number waits
-pub Marked-none : (numbers : List ℕ) (marks : List Bool) → numbers ≡ [] → ((k : ℕ) → get_or marks k false ≡ false) → IsMarked numbers marks
+pub Marked-none : (numbers : List ℕ) (marks : List Bool) → numbers ≡ [] → ((k : ℕ) → get_or marks k false ≡ false) → HasWaitingMarks numbers marks
 unfolding IsDistinct
 Marked-none numbers marks is none = rw is (record { marked = λ k. sym (none k); once = tt })
 
@@ -114,10 +114,10 @@ pub mark_read : (marks : List Bool) (n : ℕ) (b : Bool) → n < length marks �
 mark_read marks n b within is = get_or_default marks n false b within ∙ sym is
 
 -- the marks say whether a number is added after the others
-pub with_waiting : (numbers : List ℕ) (marks : List Bool) (n : ℕ) → IsMarked numbers marks → get_or marks n false ≡ true → waiting_with n numbers ≡ numbers
+pub with_waiting : (numbers : List ℕ) (marks : List Bool) (n : ℕ) → HasWaitingMarks numbers marks → get_or marks n false ≡ true → waiting_with n numbers ≡ numbers
 with_waiting numbers marks n m h = ap (λ (b : Bool). cond b numbers (numbers ++ n ∷ [])) (m.marked n ∙ h)
 
-pub with_new : (numbers : List ℕ) (marks : List Bool) (n : ℕ) → IsMarked numbers marks → get_or marks n false ≡ false → waiting_with n numbers ≡ numbers ++ n ∷ []
+pub with_new : (numbers : List ℕ) (marks : List Bool) (n : ℕ) → HasWaitingMarks numbers marks → get_or marks n false ≡ false → waiting_with n numbers ≡ numbers ++ n ∷ []
 with_new numbers marks n m h = ap (λ (b : Bool). cond b numbers (numbers ++ n ∷ [])) (m.marked n ∙ h)
 
 -- an empty list has no mark

@@ -13,7 +13,7 @@ use Rattle.lalrpop_collections.specs.Words.{AllDiffer, Ordered}
 use Rattle.lalrpop_collections.proofs.theory.lists.Lists.{contains_place, some_of_map}
 use Rattle.lalrpop_collections.proofs.theory.lists.Places.{same_some, push_cases, slice_get-longer, contains_at, differ_from_apart, apart_from_differ}
 use Rattle.lalrpop_collections.proofs.theory.lists.Updates.{IsInserted, IsReplaced}
-use Rattle.lalrpop_collections.specs.lists.SparseMaps.{ArePlaced}
+use Rattle.lalrpop_collections.specs.lists.SparseMaps.{AreEntryPlaces}
 
 -- ---- a value put at a place
 module _ {X : Type 0} (y : X) where
@@ -65,7 +65,7 @@ module _ {V : Type 0} where
   pushed_inserted old new k v e = record { front = old; back = []; before = sym (append-nil old); after = e }
 
   -- ---- entries with their places
-  module _ (places : List ℕ) (es : List (ℕ × V)) (placed : ArePlaced places es) where
+  module _ (places : List ℕ) (es : List (ℕ × V)) (placed : AreEntryPlaces places es) where
     pub placed_differ : AllDiffer (keys_of es)
     placed_differ i j k l at_i at_j =
         let a = entry_of es i k at_i in
@@ -103,22 +103,22 @@ module _ {V : Type 0} where
         other (sym (ap (λ (x : ℕ × V). x.0) one))
 
     -- the place of a number without entry may change
-    pub placed_kept : (k n : ℕ) → ¬ Contains (keys_of es) k → ArePlaced (set places k n) es
+    pub placed_kept : (k n : ℕ) → ¬ Contains (keys_of es) k → AreEntryPlaces (set places k n) es
     placed_kept k n none i e h =
         let other : e.0 ≢ k = λ same. none (subst (Contains (keys_of es)) same (contains_at (keys_of es) e.0 i (key_of es i e h))) in
         put_apart n places k e.0 other ∙ placed i e h
 
-    pub placed_more : (k n : ℕ) (v : V) → ¬ Contains (keys_of es) k → k < length places → n ≡ length es → ArePlaced (set places k n) (es ++ (k, v) ∷ [])
+    pub placed_more : (k n : ℕ) (v : V) → ¬ Contains (keys_of es) k → k < length places → n ≡ length es → AreEntryPlaces (set places k n) (es ++ (k, v) ∷ [])
     placed_more k n v none l is i e h = elim (push_cases es (k, v) i e h) [
       | inl old ↦ placed_kept k n none i e old
       | inr new ↦ subst (λ (x : ℕ × V). slice_get (set places k n) x.0 ≡ Some i) new.1 (put_here n places k l ∙ ap Some (is ∙ sym new.0))
     ]
 
     -- there may be places for more numbers
-    pub placed_resized : (n : ℕ) → length places ≤ n → (more : List ℕ) → ArePlaced (take n places ++ more) es
-    placed_resized n l more = subst (λ (ps : List ℕ). ArePlaced (ps ++ more) es) (sym (take_all n places l)) placed_longer
+    pub placed_resized : (n : ℕ) → length places ≤ n → (more : List ℕ) → AreEntryPlaces (take n places ++ more) es
+    placed_resized n l more = subst (λ (ps : List ℕ). AreEntryPlaces (ps ++ more) es) (sym (take_all n places l)) placed_longer
       where
-        placed_longer : ArePlaced (places ++ more) es
+        placed_longer : AreEntryPlaces (places ++ more) es
         placed_longer i e h = slice_get-longer places more e.0 i (placed i e h)
 
 -- ---- numbers that differ, in another order

@@ -6,7 +6,7 @@ use Rattle.std.proofs.lemmas.Nat.{le_or_r, or_lt, pow_below, pow_pos}
 use Rattle.std.proofs.lemmas.Nat.Bits.{bit_at-lt, bit_at_or, bit_at-pow_same, bit_at-pow_other}
 use Rattle.std.proofs.lemmas.Bool.{cases_eq, or_left, or_right}
 use Rattle.lalrpop_collections.specs.Words.{Bits, rising}
-use Rattle.lalrpop_collections.specs.lists.BitVectors.{has_bit, members_from, bits_of_words, IsBitVector, word_joined, words_of}
+use Rattle.lalrpop_collections.specs.lists.BitVectors.{has_bit, members_from, bits_of_words, IsBitVector, word_joined, bit_words}
 use Rattle.lalrpop_collections.proofs.theory.lists.RisingLemmas.{among}
 use Rattle.lalrpop_collections.proofs.theory.sets.BitVectorLemmas.{has_bit-is, has_bit-past, has_bit-within, same_lists, same_word_at, rising-bits_of_words, among-members}
 use Rattle.lalrpop_collections.proofs.theory.sets.TokenSetLemmas.{no_words_vector}
@@ -92,28 +92,28 @@ module _ (ws : List ℕ) (n : ℕ) where
       (cases_eq (q / 64) place)
 
 -- ---- the words of numbers
-has-words_of : (ns : List ℕ) (q : ℕ) → has_bit (words_of ns) q ≡ among q ns
-has-words_of [] q = has_bit-past [] q (omega arith)
-has-words_of (n ∷ ns) q = joined_bit (words_of ns) n q ∙ ap (λ b. (q == n) || b) (has-words_of ns q)
+has-bit_words : (ns : List ℕ) (q : ℕ) → has_bit (bit_words ns) q ≡ among q ns
+has-bit_words [] q = has_bit-past [] q (omega arith)
+has-bit_words (n ∷ ns) q = joined_bit (bit_words ns) n q ∙ ap (λ b. (q == n) || b) (has-bit_words ns q)
 
-words_of_vector : (ns : List ℕ) → ((q : ℕ) → among q ns ≡ true → q < 2 ^ 63) → IsBitVector (words_of ns)
+words_of_vector : (ns : List ℕ) → ((q : ℕ) → among q ns ≡ true → q < 2 ^ 63) → IsBitVector (bit_words ns)
 words_of_vector [] low = no_words_vector
 words_of_vector (n ∷ ns) low =
     let here : n < 2 ^ 63 = low n (or_left (n == n) (among n ns) (eq-eqb n n refl)) in
-    joined_vector (n / 64) (2 ^ (n % 64)) (words_of ns)
+    joined_vector (n / 64) (2 ^ (n % 64)) (bit_words ns)
     (words_of_vector ns (λ q there. low q (or_right (q == n) (among q ns) there)))
     (λ e. omega (arith, e, pow_pos (n % 64))) (pow_below (n % 64) 64 (omega arith)) (omega (arith, here))
 
 -- the words of the numbers of a bit vector are its own
-words_of-members : (words : List ℕ) → IsBitVector words → words_of (members_from words 0) ≡ words
-words_of-members words is =
+bit_words-members : (words : List ℕ) → IsBitVector words → bit_words (members_from words 0) ≡ words
+bit_words-members words is =
     let ns = members_from words 0 in
-    let vector : IsBitVector (words_of ns) = words_of_vector ns (λ q there. omega (arith, is.few, has_bit-within words q (sym (among-members words q) ∙ there))) in
-    same_lists (words_of ns) words vector is (same_word_at (words_of ns) words vector.each is.each (λ q. has-words_of ns q ∙ among-members words q))
+    let vector : IsBitVector (bit_words ns) = words_of_vector ns (λ q there. omega (arith, is.few, has_bit-within words q (sym (among-members words q) ∙ there))) in
+    same_lists (bit_words ns) words vector is (same_word_at (bit_words ns) words vector.each is.each (λ q. has-bit_words ns q ∙ among-members words q))
 
-words_of-rising : (words : List ℕ) → IsBitVector words → words_of (rising (bits_of_words words)) ≡ words
-words_of-rising words is = ap words_of (rising-bits_of_words words) ∙ words_of-members words is
+bit_words-rising : (words : List ℕ) → IsBitVector words → bit_words (rising (bits_of_words words)) ≡ words
+bit_words-rising words is = ap bit_words (rising-bits_of_words words) ∙ bit_words-members words is
 
 -- the words of a set of a bit vector are its own
-pub words_of_set : (words : List ℕ) (s : Bits) → bits_of_words words ≡ s → IsBitVector words → words ≡ words_of (rising s)
-words_of_set words s view is = sym (words_of-rising words is) ∙ ap (λ (t : Bits). words_of (rising t)) view
+pub words_of_set : (words : List ℕ) (s : Bits) → bits_of_words words ≡ s → IsBitVector words → words ≡ bit_words (rising s)
+words_of_set words s view is = sym (bit_words-rising words is) ∙ ap (λ (t : Bits). bit_words (rising t)) view

@@ -4,7 +4,7 @@ use Rattle.std.specs.Prelude.{Contains}
 use Rattle.std.proofs.lemmas.Option.{slice_get_within}
 use Rattle.lalrpop_base.specs.Words.{Bits, no_bits, with_bit, InClosure, in_kernel, expanded, InTokenClosure, with_token, AreOwn, InKernel, HasItemToken}
 use Rattle.lalrpop_base.specs.Words.{begins_rest, inherits, IsAtStart, IsAtStartWith, IsMoved, IsMovedWith, holds_token, Dotted, productions, productions_of}
-use Rattle.lalrpop_base.specs.Words.{IsWellFormed, begun, IsBehind, Shifts, shifted}
+use Rattle.lalrpop_base.specs.Words.{IsWellFormed, item_at_start, IsBehind, Shifts, shifted}
 use Rattle.lalrpop_construction.proofs.Types.{Grammar, NonterminalString, Production, Symbol, TerminalString, Token}
 use Rattle.lalrpop_grammar.specs.declared.lookahead.token.Token.TheVariants.{Eof, Error, Terminal as TokenOf}
 use Rattle.lalrpop_states.proofs.theory.states.HeldTokens.{place_there}
@@ -45,28 +45,28 @@ module _ (g : Grammar) (well : IsWellFormed g) (own : AreOwn g) (start : Nonterm
       let d : Contains (productions_of g start) p = subst (Contains (productions_of g start)) same c in
       (sym (ap (λ (d : Production × ℕ). d.1) e), productions_among g start p d, productions_named g well start p d)
 
-  in_start : {L : Type 0} (s : L) (p : Production) → Contains (productions g) p → p.nonterminal ≡ start → Contains (map (begun s) (productions_of g start)) (begun s p)
-  in_start s p among named = contains_map (begun s) (productions_of g start) p (subst (λ (a : NonterminalString). Contains (productions_of g a) p) named (own p among))
+  in_start : {L : Type 0} (s : L) (p : Production) → Contains (productions g) p → p.nonterminal ≡ start → Contains (map (item_at_start s) (productions_of g start)) (item_at_start s p)
+  in_start s p among named = contains_map (item_at_start s) (productions_of g start) p (subst (λ (a : NonterminalString). Contains (productions_of g a) p) named (own p among))
 
-  pub start_items : {L : Type 0} (s : L) (p : Production) (dot : ℕ) → InKernel (map (begun s) (productions_of g start)) p dot ↔ IsAtStart (productions g) start p dot
+  pub start_items : {L : Type 0} (s : L) (p : Production) (dot : ℕ) → InKernel (map (item_at_start s) (productions_of g start)) p dot ↔ IsAtStart (productions g) start p dot
   start_items {L} s p dot = (
     λ c.
-        let i = of_dotted (map (begun s) (productions_of g start)) (p, dot) c in
+        let i = of_dotted (map (item_at_start s) (productions_of g start)) (p, dot) c in
         let q = begun_in s (productions_of g start) i.0 i.1 in
         at_start p q.0 dot (ap (λ (j : Dotted L). dotted_of j) q.2 ∙ i.2) q.1,
-    λ h. subst (λ (n : ℕ). InKernel (map (begun s) (productions_of g start)) p n) (sym h.0) (contains_map dotted_of (map (begun s) (productions_of g start)) (begun s p) (in_start s p h.1 h.2)),
+    λ h. subst (λ (n : ℕ). InKernel (map (item_at_start s) (productions_of g start)) p n) (sym h.0) (contains_map dotted_of (map (item_at_start s) (productions_of g start)) (item_at_start s p) (in_start s p h.1 h.2)),
   )
 
   abbrev eof : Bits
   eof = with_bit no_bits (length g.terminals)
 
-  pub start_tokens : (p : Production) (dot : ℕ) (t : Token) → HasItemToken g.terminals (map (begun eof) (productions_of g start)) p dot t ↔ IsAtStartWith (productions g) start p dot t
+  pub start_tokens : (p : Production) (dot : ℕ) (t : Token) → HasItemToken g.terminals (map (item_at_start eof) (productions_of g start)) p dot t ↔ IsAtStartWith (productions g) start p dot t
   start_tokens p dot t = (
     λ h.
         let q = begun_in eof (productions_of g start) h.item h.there in
         (at_start p q.0 dot (ap (λ (j : Dotted Bits). dotted_of j) q.2 ∙ h.is) q.1, only_eof g.terminals t (subst (λ (j : Dotted Bits). holds_token g.terminals j.lookahead t ≡ true) (sym q.2) h.holds)),
     λ h. record {
-      item = begun eof p;
+      item = item_at_start eof p;
       there = in_start eof p h.0.1 h.0.2;
       is = ap (λ (n : ℕ). (p, n)) (sym h.0.0);
       holds = subst (λ (u : Token). holds_token g.terminals eof u ≡ true) (sym h.1) (own_bit (length g.terminals));

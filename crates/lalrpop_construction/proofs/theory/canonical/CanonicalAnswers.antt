@@ -16,7 +16,7 @@ use Rattle.lalrpop_construction.proofs.theory.canonical.OrderedCanonical.{Ordere
 use Rattle.lalrpop_construction.proofs.theory.early_stop.MadeUntil.{Stops-fail}
 use Rattle.lalrpop_construction.proofs.theory.early_stop.StoppedAnswers.{stopping, stops, not_lr1}
 use Rattle.lalrpop_construction.proofs.theory.early_stop.StoppedConflicts.{conflict_not_lr1}
-use Rattle.lalrpop_construction.proofs.theory.early_stop.StoppedStates.{begun_kernel}
+use Rattle.lalrpop_construction.proofs.theory.early_stop.StoppedStates.{kernel_at_start}
 use Rattle.lalrpop_construction.proofs.theory.closures.TokenTables.{Passes, Lists, Tables-of, Fails-of}
 
 module _ (g : Grammar) (start : NonterminalString) (well : IsWellFormed g) (own : AreOwn g) (differ : AllDiffer g.terminals) where
@@ -39,7 +39,7 @@ module _ (g : Grammar) (start : NonterminalString) (well : IsWellFormed g) (own 
   Canonical-lacks states conflicts made all =
       let canonical : AreCanonicalStates (rules_of g) start states = are_canonical g start well own differ states made in
       record {
-        not_lr1 = conflict_not_lr1 g start well own differ states (whole_partly (IsClosureOf (rules_of g)) (begun_kernel g start) states made.built) (λ none. all.some (all.all ∙ none));
+        not_lr1 = conflict_not_lr1 g start well own differ states (whole_partly (IsClosureOf (rules_of g)) (kernel_at_start g start) states made.built) (λ none. all.some (all.all ∙ none));
         canonical = canonical;
         built = made;
         all = all;

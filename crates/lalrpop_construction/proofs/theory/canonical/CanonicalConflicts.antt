@@ -12,7 +12,7 @@ use Rattle.std.proofs.lemmas.Option.{slice_get_within}
 use Rattle.lalrpop_base.specs.Words.{Bits, AreCanonical, IsOrder, AreConflictsOf, AreCanonicalConflicts, ReducesInOrder, holds_token, number_of, no_contents}
 use Rattle.lalrpop_base.specs.Words.{contents_of, contents_at, contents, Dotted, AllDiffer, state_conflicts, HasNoRepeat, LeadsOverDots, state_after, FitsTokens}
 use Rattle.lalrpop_base.specs.Words.{Rules, rules_of, productions, IsWellFormed, AreItems}
-use Rattle.lalrpop_construction.specs.Words.{listed_of, AreCanonicalConflictsOf, FailByCanonicalConflicts}
+use Rattle.lalrpop_construction.specs.Words.{listed_of, AreCanonicalConflictsOf, AreConflictsOfFailure}
 use Rattle.lalrpop_construction.specs.Words.{conflicts_of, AreStatesOf, canonical_of}
 use Rattle.lalrpop_base.specs.Words.{AreAllConflicts, reductions_of, seen_reduction}
 use Rattle.lalrpop_grammar.specs.contracts.repr.exact.ProductionExact.TheImpl as production_exactly
@@ -124,7 +124,7 @@ module _ (g : Grammar) (start : NonterminalString) (states : List (State Bits)) 
 pub canonical_failure : (g : Grammar) (start : NonterminalString) (states : List (State Bits)) (conflicts : List (Conflict Bits)) (tokens : ℕ → Production → ℕ → Token → Type 0) → IsWellFormed g → AllDiffer g.terminals →
     AreStatesOf (canonical_of g start) states → ((n : ℕ) (state : State Bits) → slice_get states n ≡ Some state → IsOrdered terminal_order state.shifts) →
     AreCanonical (productions g) start (contents g.terminals states) tokens → ((n : ℕ) → ReducesInOrder production_ord.ghosts.cmp (contents g.terminals states n)) →
-    AreAllConflicts g.terminals states conflicts → FailByCanonicalConflicts g start states conflicts
+    AreAllConflicts g.terminals states conflicts → AreConflictsOfFailure g start states conflicts
 canonical_failure g start states conflicts tokens well differ of ordered canonical ascend listed = record {
   canonical = conflicts_are_canonical g start states tokens differ canonical ascend (λ n s at. let e = (of.coherent n s at).numbered in omega arith) listable conflicts listed.all;
   some = listed.some;

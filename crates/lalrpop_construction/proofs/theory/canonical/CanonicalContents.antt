@@ -9,8 +9,8 @@ use Rattle.lalrpop_grammar.specs.states.States.{Reduction}
 use Rattle.lalrpop_construction.proofs.Types.{Grammar, NonterminalString, Production, State, Symbol, Token}
 use Rattle.lalrpop_states.specs.closures.Closure.{dotted_of, itself}
 use Rattle.lalrpop_construction.specs.Words.{AreStatesOf, canonical_of}
-use Rattle.lalrpop_base.specs.Words.{begun}
-use Rattle.lalrpop_construction.specs.states.Canonical.{tokens_at}
+use Rattle.lalrpop_base.specs.Words.{item_at_start}
+use Rattle.lalrpop_construction.specs.states.Canonical.{item_has_token}
 use Rattle.lalrpop_construction.proofs.theory.canonical.Canonical.{InTokenClosure-more, moved_tokens, start_items, start_tokens}
 use Rattle.lalrpop_construction.proofs.theory.grammars.ItemTokens.{test_exact, one_item}
 use Rattle.lalrpop_collections.proofs.theory.lists.Places.{one_place}
@@ -35,7 +35,7 @@ module _ (g : Grammar) (start : NonterminalString) (well : IsWellFormed g) (own 
   eof = with_bit no_bits (length g.terminals)
 
   abbrev first : List (Dotted Bits)
-  first = map (begun eof) (productions_of g start)
+  first = map (item_at_start eof) (productions_of g start)
 
   exactly : (kernel items : List (Dotted Bits)) → Closes kernel items → IsExactClosure (rules_of g) kernel items
   exactly = exactly_of (rules_of g)
@@ -56,13 +56,13 @@ module _ (g : Grammar) (start : NonterminalString) (well : IsWellFormed g) (own 
   once_at n (Some s) at = (closure_of n s at).are_items.differ
 
   -- a reduction holds the tokens of its item
-  held_at : (n : ℕ) (o : Option (State Bits)) → slice_get states n ≡ o → (r : Reduction) (t : Token) → Contains (contents_at holds o).reductions r → (r.holds t ≡ true) ↔ (tokens_at holds o r.production (length r.production.symbols) t ≡ true)
+  held_at : (n : ℕ) (o : Option (State Bits)) → slice_get states n ≡ o → (r : Reduction) (t : Token) → Contains (contents_at holds o).reductions r → (r.holds t ≡ true) ↔ (item_has_token holds o r.production (length r.production.symbols) t ≡ true)
   held_at n None at r t c = absurd (no_reduction r c)
   held_at n (Some s) at r t c =
       let items = s.items.vec.items in
       let i = reduction_from holds s ((made.built.each n s at).built.finished) r c in
       let is : dotted_of i.0 ≡ ((i.0).production, length (i.0).production.symbols) = ap (λ (d : ℕ). ((i.0).production, d)) i.2 in
-      subst (λ (q : Reduction). (q.holds t ≡ true) ↔ (tokens_at holds (Some s) q.production (length q.production.symbols) t ≡ true)) i.3
+      subst (λ (q : Reduction). (q.holds t ≡ true) ↔ (item_has_token holds (Some s) q.production (length q.production.symbols) t ≡ true)) i.3
       (then_both (
         (λ h. record { item = i.0; there = i.1; is = is; holds = h }),
         (λ (h : HasItemToken g.terminals items (i.0).production (length (i.0).production.symbols) t).
@@ -86,7 +86,7 @@ module _ (g : Grammar) (start : NonterminalString) (well : IsWellFormed g) (own 
       let K : Production → ℕ → Token → Type 0 = HasItemToken g.terminals first in
       let A : Production → ℕ → Token → Type 0 = IsAtStartWith (productions g) start in
       let begin = start_tokens g well own start in
-      subst (λ (o : Option (State Bits)). (tokens_at holds o p dot t ≡ true) ↔ InTokenClosure (productions g) (λ q d. Contains (contents_at holds o).items (q, d)) A p dot t) (sym s.1)
+      subst (λ (o : Option (State Bits)). (item_has_token holds o p dot t ≡ true) ↔ InTokenClosure (productions g) (λ q d. Contains (contents_at holds o).items (q, d)) A p dot t) (sym s.1)
       (then_both (test_exact g.terminals (s.0).items.vec.items p dot t) (then_both (c.tokens p dot t) (
         InTokenClosure-more (productions g) I K A (λ q d u h. (begin q d u).0 h),
         InTokenClosure-more (productions g) I A K (λ q d u h. (begin q d u).1 h),
@@ -101,11 +101,11 @@ module _ (g : Grammar) (start : NonterminalString) (well : IsWellFormed g) (own 
       let I : Production → ℕ → Type 0 = λ q d. Contains (map dotted_of items) (q, d) in
       let K : Production → ℕ → Token → Type 0 = HasItemToken g.terminals s.kernel in
       let A : Production → ℕ → Token → Type 0 = HasItemToken g.terminals from in
-      let B : Production → ℕ → Token → Type 0 = λ q d u. tokens_at holds (Some s.source) q d u ≡ true in
+      let B : Production → ℕ → Token → Type 0 = λ q d u. item_has_token holds (Some s.source) q d u ≡ true in
       let moved = moved_tokens x from s.kernel s.shifts g.terminals in
       let exact = λ (q : Production) (d : ℕ) (u : Token). test_exact g.terminals from q d u in
-      subst (λ (o : Option (State Bits)). (tokens_at holds o p dot t ≡ true) ↔ InTokenClosure (productions g) (λ q d. Contains (contents_at holds o).items (q, d)) (IsMovedWith (λ q d u. tokens_of g.terminals states n q d u ≡ true) x) p dot t) (sym s.there)
-      (subst (λ (o : Option (State Bits)). (tokens_at holds (Some s.target) p dot t ≡ true) ↔ InTokenClosure (productions g) I (IsMovedWith (λ q d u. tokens_at holds o q d u ≡ true) x) p dot t) (sym s.at)
+      subst (λ (o : Option (State Bits)). (item_has_token holds o p dot t ≡ true) ↔ InTokenClosure (productions g) (λ q d. Contains (contents_at holds o).items (q, d)) (IsMovedWith (λ q d u. tokens_of g.terminals states n q d u ≡ true) x) p dot t) (sym s.there)
+      (subst (λ (o : Option (State Bits)). (item_has_token holds (Some s.target) p dot t ≡ true) ↔ InTokenClosure (productions g) I (IsMovedWith (λ q d u. item_has_token holds o q d u ≡ true) x) p dot t) (sym s.at)
       (then_both (test_exact g.terminals items p dot t) (then_both (s.closure.tokens p dot t) (
         InTokenClosure-more (productions g) I K (IsMovedWith B x) (λ q d u h. moved_with_along A B x (λ r k v. (exact r k v).1) q d u ((moved q d u).0 h)),
         InTokenClosure-more (productions g) I (IsMovedWith B x) K (λ q d u h. (moved q d u).1 (moved_with_along B A x (λ r k v. (exact r k v).0) q d u h)),
@@ -131,8 +131,8 @@ module _ (g : Grammar) (start : NonterminalString) (well : IsWellFormed g) (own 
       subst (λ (o : Option (State Bits)). Contains (map dotted_of at_n) (p, suc d) ↔ Contains (contents_at holds o).items (p, suc d)) u.there
       (subst (λ (o : Option (State Bits)). Contains (contents_at holds o).items (p, suc d) ↔ items_of now m p (suc d)) s.there (items p d)) in
       let same_tests = λ (p : Production) (d : ℕ) (t : Token).
-      subst (λ (o : Option (State Bits)). (tokens_at holds (Some s.target) p (suc d) t ≡ true) ↔ (tokens_at holds o p (suc d) t ≡ true)) u.there
-      (subst (λ (o : Option (State Bits)). (tokens_at holds o p (suc d) t ≡ true) ↔ (tokens_of g.terminals states m p (suc d) t ≡ true)) s.there (tokens p d t)) in
+      subst (λ (o : Option (State Bits)). (item_has_token holds (Some s.target) p (suc d) t ≡ true) ↔ (item_has_token holds o p (suc d) t ≡ true)) u.there
+      (subst (λ (o : Option (State Bits)). (item_has_token holds o p (suc d) t ≡ true) ↔ (tokens_of g.terminals states m p (suc d) t ≡ true)) s.there (tokens p d t)) in
       let same = same_kernels (rules_of g) differ s.kernel u.kernel (moved_kernel k n x s) (moved_kernel l m y u)
       (λ p d. then_both (kernel_items (rules_of g) s.kernel at_n (exactly s.kernel at_n s.closure) p d) (then_both (same_items p d) (turned_both (kernel_items (rules_of g) u.kernel at_m (exactly u.kernel at_m u.closure) p d))))
       (λ p d t. then_both (kernel_tokens (rules_of g) s.kernel at_n s.closure p d t) (then_both (turned_both (test_exact g.terminals at_n p (suc d) t)) (then_both (same_tests p d t) (then_both (test_exact g.terminals at_m p (suc d) t) (turned_both (kernel_tokens (rules_of g) u.kernel at_m u.closure p d t)))))) in

@@ -1,7 +1,7 @@
 -- The number of conflicts of canonical states.
 use Rattle.std.proofs.Common.{◌≡◌, ◌≢◌, ℕ, ◌<◌, List, [], length, refl, sym, ◌∙◌, ap, subst, arith}
 use Rattle.std.specs.List.{flat_map}
-use Rattle.lalrpop_base.specs.Words.{AllDiffer, Bits, IsWellFormed, state_conflicts, AreOwn, Begins, HaveNoConflict}
+use Rattle.lalrpop_base.specs.Words.{AllDiffer, Bits, IsWellFormed, state_conflicts, AreOwn, Begins, AreAllConflictFree}
 use Rattle.lalrpop_construction.proofs.Types.{Conflict, Grammar, NonterminalString, State}
 use Rattle.lalrpop_states.specs.closures.Closure.{itself}
 use Rattle.lalrpop_construction.specs.Words.{AreCanonicalTablesOrCount, MatchTablesOrCount, up_to_greatest}
@@ -21,7 +21,7 @@ module _ (g : Grammar) (start : NonterminalString) (well : IsWellFormed g) (own 
   of : AreStatesOf (canonical_of g start) states
   of = states_of (canonical_of g start) states made
 
-  pub Canonical-counted : (answer : TablesOrCount) → MatchTablesOrCount (λ tables. (tables ≡ states) × HaveNoConflict g.terminals tables) (λ n. (0 < n) × (n ≡ up_to_greatest (length listed))) answer → AreCanonicalTablesOrCount g start answer
+  pub Canonical-counted : (answer : TablesOrCount) → MatchTablesOrCount (λ tables. (tables ≡ states) × AreAllConflictFree g.terminals tables) (λ n. (0 < n) × (n ≡ up_to_greatest (length listed))) answer → AreCanonicalTablesOrCount g start answer
   Canonical-counted (Tables tables) h = Canonical-tables g start well own differ tables.items (record { made = subst (AreStatesOf (canonical_of g start)) (sym h.0) of; free = h.1 })
   Canonical-counted (Conflicts n) h = record {
     states = states;

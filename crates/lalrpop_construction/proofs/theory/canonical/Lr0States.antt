@@ -11,7 +11,7 @@ use Rattle.lalrpop_states.specs.closures.Closure.{dotted_of}
 use Rattle.lalrpop_base.specs.Words.{Precedes, Ascend, AreOwn, InKernel, IsClosureBy}
 use Rattle.lalrpop_construction.specs.Words.{on_any, AreLr0States, HasLr0States, HaveNoNilConflict, ListsNilConflicts}
 use Rattle.lalrpop_construction.specs.Words.{StopsFor, Construction, Settings, AreStatesFor, AreTablesFor, FailsFor}
-use Rattle.lalrpop_base.specs.Words.{begun, Shifts}
+use Rattle.lalrpop_base.specs.Words.{item_at_start, Shifts}
 use Rattle.lalrpop_states.proofs.theory.grammars.AscendingItems.{precedes_asymmetric}
 use Rattle.lalrpop_construction.proofs.theory.canonical.Canonical.{start_items}
 use Rattle.lalrpop_construction.proofs.theory.construction.ClosedStates.{IsExactClosure, closed, reduces, reached, source_reached, kernels_differ}
@@ -64,7 +64,7 @@ module _ (g : Grammar) (start : NonterminalString) (lookahead : Nil) (well : IsW
   pub States-lr0 : (states : List (State Nil)) → AreStatesFor nothing never stopped Lists construction states → AreLr0States (rules_of g) start states
   States-lr0 states made =
       let r = rules_of g in
-      let first : List (Dotted Nil) = map (begun lookahead) (productions_of g start) in
+      let first : List (Dotted Nil) = map (item_at_start lookahead) (productions_of g start) in
       let begins = start_items g well own start lookahead in
       let c = closed on_any r start (Closes r) (exactly r) first begins states made.built in
       record {

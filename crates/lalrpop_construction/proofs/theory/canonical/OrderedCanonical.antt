@@ -1,8 +1,6 @@
 -- Canonical states meet the condition of a collapse, as the construction makes them and under other
 -- numbers.
-use Rattle.std.proofs.Common.{List, sym, subst}
-use Rattle.std.specs.Prelude.{Contains}
-use Rattle.std.specs.Borrow.{Bor}
+use Rattle.std.proofs.Common.{List}
 use Rattle.lalrpop_base.specs.Words.{Bits, rules_of}
 use Rattle.lalrpop_construction.specs.Words.{AreCanonicalStates, AreOrderedCanonical, AreStatesOf, canonical_of}
 use Rattle.lalrpop_construction.proofs.Types.{Grammar, NonterminalString, State}

@@ -6,7 +6,7 @@ use Rattle.lalrpop_grammar.specs.contracts.repr.ProductionOrd.TheImpl as product
 use Rattle.lalrpop_grammar.specs.contracts.repr.TerminalStringOrd.TheImpl as terminal_ord
 use Rattle.lalrpop_construction.proofs.Types.{BuildError, Conflict, Grammar, NonterminalString, State}
 use Rattle.lalrpop_states.specs.declared.lr1_core.state.BuildError.TheVariants.{Conflicts, Memory}
-use Rattle.lalrpop_construction.specs.Words.{AreCanonicalStates, AreOrderedCanonical, FitReductions, FailByCanonicalConflicts, ShiftsLead, listed_of, conflicts_of}
+use Rattle.lalrpop_construction.specs.Words.{AreCanonicalStates, AreOrderedCanonical, FitReductions, AreConflictsOfFailure, ShiftsLead, listed_of, conflicts_of}
 use Rattle.lalrpop_base.specs.Words.{AreAllConflicts}
 use Rattle.lalrpop_construction.specs.Words.{AreCanonicalTables, FailsByConflicts}
 use Rattle.lalrpop_construction.specs.Words.{AreSomeCanonicalStates, StopsAfter, Construction, AreStatesOf, AreTables, canonical_of}
@@ -32,7 +32,7 @@ module _ (g h : Grammar) (start other : NonterminalString) (same : canonical_of 
     built = subst (λ (c : Construction Bits). AreTables c tables) same t.built;
   }
 
-  Same-conflicts : (states : List (State Bits)) (conflicts : List (Conflict Bits)) → FailByCanonicalConflicts g start states conflicts → FailByCanonicalConflicts h other states conflicts
+  Same-conflicts : (states : List (State Bits)) (conflicts : List (Conflict Bits)) → AreConflictsOfFailure g start states conflicts → AreConflictsOfFailure h other states conflicts
   Same-conflicts states conflicts f = record {
     canonical = record {
       each = λ u n. subst (λ (c : Construction Bits). state_after (contents c.rules.terminals states) u ≡ Some n → AreCanonicalConflicts terminal_ord.ghosts.cmp production_ord.ghosts.cmp c.rules.productions c.start u (conflicts_of c.rules.terminals (listed_of n conflicts))) same (f.canonical.each u n);

@@ -3,9 +3,9 @@
 use Rattle.std.proofs.Common.{◌≡◌, ◌↔◌, ℕ, ◌+◌, ◌⊎◌, inl, inr, List, length, map, sym, ◌∙◌, subst, arith, true, Some, refl}
 use Rattle.std.specs.Prelude.{Contains}
 use Rattle.std.proofs.lemmas.Bool.{false≢true}
-use Rattle.lalrpop_base.specs.Words.{Bits, has, no_bits, has-no_bits, holds_token, IsFirstSetBefore, IsNullable, Dotted, Rules, rules_of, IsWellFormed, begun}
+use Rattle.lalrpop_base.specs.Words.{Bits, has, no_bits, has-no_bits, holds_token, IsFirstSetBefore, IsNullable, Dotted, Rules, rules_of, IsWellFormed, item_at_start}
 use Rattle.lalrpop_base.specs.Words.{productions_of, HasKnownTerminals, AreOwn, Begins}
-use Rattle.lalrpop_construction.specs.Words.{IsBegunWith, AreBegunWith}
+use Rattle.lalrpop_construction.specs.Words.{IsItemAtStart, AreItemsAtStart}
 use Rattle.lalrpop_construction.proofs.Types.{Grammar, NonterminalString, Production, Symbol, TerminalString, Token}
 use Rattle.lalrpop_grammar.specs.declared.lookahead.token.Token.TheVariants.{Eof, Error, Terminal as TokenOf}
 use Rattle.lalrpop_states.proofs.theory.states.HeldTokens.{place_there}
@@ -17,13 +17,13 @@ use Rattle.lalrpop_collections.proofs.theory.lists.Places.{same_some}
 use Rattle.lalrpop_construction.proofs.theory.construction.Shifting.{begun_in, begun_differ}
 
 -- ---- the productions of a nonterminal
-pub Begun-all : {L : Type 0} (g : Grammar) (well : IsWellFormed g) (own : AreOwn g) (name : NonterminalString) (lookahead : L) (items : List (Dotted L)) → items ≡ map (begun lookahead) (productions_of g name) → AreBegunWith (rules_of g) name lookahead items
-Begun-all {L} g well own name lookahead items e = subst (AreBegunWith (rules_of g) name lookahead) (sym e) (record {
+pub Begun-all : {L : Type 0} (g : Grammar) (well : IsWellFormed g) (own : AreOwn g) (name : NonterminalString) (lookahead : L) (items : List (Dotted L)) → items ≡ map (item_at_start lookahead) (productions_of g name) → AreItemsAtStart (rules_of g) name lookahead items
+Begun-all {L} g well own name lookahead items e = subst (AreItemsAtStart (rules_of g) name lookahead) (sym e) (record {
   each = λ i c.
       let p = begun_in lookahead (productions_of g name) i c in
-      subst (IsBegunWith (rules_of g) name lookahead) p.2 (record { start = refl; among = productions_among g name p.0 p.1; named = productions_named g well name p.0 p.1; same = refl });
+      subst (IsItemAtStart (rules_of g) name lookahead) p.2 (record { start = refl; among = productions_among g name p.0 p.1; named = productions_named g well name p.0 p.1; same = refl });
   all = λ p among named.
-      contains_map dotted_of (map (begun lookahead) (productions_of g name)) (begun lookahead p) (contains_map (begun lookahead) (productions_of g name) p (subst (λ (a : NonterminalString). Contains (productions_of g a) p) named (own p among)));
+      contains_map dotted_of (map (item_at_start lookahead) (productions_of g name)) (item_at_start lookahead p) (contains_map (item_at_start lookahead) (productions_of g name) p (subst (λ (a : NonterminalString). Contains (productions_of g a) p) named (own p among)));
   once = begun_differ g name lookahead well;
 })
 

@@ -1,8 +1,6 @@
 -- Lookaheads and their meanings: entries that are joined, and closures.
-use Rattle.std.proofs.Common.{◌≡◌, ◌≢◌, ℕ, inl, inr, List, [], ◌∷◌, ◌++◌, map, refl, sym, ◌∙◌, ap, subst, Bool, true, false, Result, Ok, Err, IfOk}
-use Rattle.std.specs.Prelude.{Contains, MatchBool, OnOk}
-use Rattle.std.specs.Map.{keys_of}
-use Rattle.std.proofs.lemmas.List.{map-append}
+use Rattle.std.proofs.Common.{◌≡◌, ℕ, inl, inr, List, [], ◌∷◌, map, refl, sym, ◌∙◌, ap, subst, true}
+use Rattle.std.specs.Prelude.{Contains}
 use Rattle.lalrpop_base.specs.Words.{Bits, InClosure, holds_token, Dotted, AllDiffer, Rules}
 use Rattle.lalrpop_construction.proofs.Types.{Production, Symbol, TerminalString, Token}
 use Rattle.lalrpop_collections.proofs.theory.lists.Lists.{contains_of_map}

@@ -4,10 +4,10 @@ use Rattle.std.proofs.Common.{◌≡◌, ℕ, zero, suc, ◌<◌, ◌⊎◌, inl
 use Rattle.std.specs.Prelude.{Contains, slice_get, get_or}
 use Rattle.std.proofs.lemmas.List.Elements.{Contains-append_left, Contains-append_right, Contains-append_cases}
 use Rattle.std.proofs.lemmas.Option.{slice_get-map, slice_get_within}
-use Rattle.lalrpop_base.specs.Words.{Bits, holds_token, Dotted, AllDiffer, FitsTokens, Ordered, Rules, AreItemsBy, Ascend, Found, HasGiven, InKernel, IsClosureBy}
-use Rattle.lalrpop_base.specs.Words.{IsFound, IsItemOf, IsTokenClosed, Precedes, item_of, meant, readings, begun_of, AreExpansions, AreNumbered, AreNumbers}
+use Rattle.lalrpop_base.specs.Words.{Bits, holds_token, Dotted, AllDiffer, FitsTokens, Ordered, Rules, AreItemsBy, Ascend, ClosureTable, HasPropagated, InKernel, IsClosureBy}
+use Rattle.lalrpop_base.specs.Words.{IsFound, IsItemOf, IsTokenClosed, Precedes, item_of, meant, readings, lr0_at_start, AreExpansions, AreNumbered, AreNumbers}
 use Rattle.lalrpop_base.specs.Words.{dotted_at, item_by, items_by}
-use Rattle.lalrpop_construction.specs.Words.{HasShare, IsFront, IsNamed, IsShared, IsSharing, Shared, list_at, numbered_of, parts_in, unfolded}
+use Rattle.lalrpop_construction.specs.Words.{HasTokensThatFollow, IsExpansionWith, IsNamed, IsPropagated, IsPropagation, NonterminalTokens, vec_items_at, numbered_of, parts_in, unfolded}
 use Rattle.lalrpop_construction.specs.Words.{with_tokens}
 use Rattle.lalrpop_construction.proofs.Types.{Nil, Production, Symbol, Token}
 use Rattle.lalrpop_grammar.specs.declared.repr.Symbol.TheVariants.{Nonterminal}
@@ -24,7 +24,7 @@ use Rattle.lalrpop_collections.proofs.theory.lists.Members.{contains_map, Contai
 use Rattle.lalrpop_construction.proofs.theory.numbers.Numbers.{at_number, items_ascend, stands_at}
 use Rattle.lalrpop_construction.proofs.theory.closures.Readings.{Meant-closure}
 use Rattle.lalrpop_collections.proofs.theory.lists.Places.{contains_at, filled, one_place, same_some, slice_get_at}
-use Rattle.lalrpop_construction.proofs.theory.closures.Sharing.{Reached, ReachedWith, kernel_reached, kernel_token}
+use Rattle.lalrpop_construction.proofs.theory.closures.Propagation.{Reached, ReachedWith, kernel_reached, kernel_token}
 use Rattle.lalrpop_collections.proofs.theory.lists.Updates.{one_value}
 
 -- items that ascend have no dotted production twice
@@ -39,14 +39,14 @@ ascend_differ {L} items ascend i j x l at_i at_j =
     ]
 
 -- the list at an index within the lists
-pub list_stands : {A : Type 0} (vs : List (Vec ℕ A)) (x : ℕ) → x < length vs → slice_get (map (λ (v : Vec ℕ A). v.items) vs) x ≡ Some (list_at vs x)
+pub list_stands : {A : Type 0} (vs : List (Vec ℕ A)) (x : ℕ) → x < length vs → slice_get (map (λ (v : Vec ℕ A). v.items) vs) x ≡ Some (vec_items_at vs x)
 list_stands [] x l = absurd (omega arith)
 list_stands (v ∷ vs) zero l = refl
 list_stands (v ∷ vs) (suc x) l = list_stands vs x (omega arith)
 
-pub list_read : (vs : List (Vec ℕ Global)) (x : ℕ) (v : Vec ℕ Global) → x < length vs → v ≡ get_or vs x v → list_at vs x ≡ v.items
+pub list_read : (vs : List (Vec ℕ Global)) (x : ℕ) (v : Vec ℕ Global) → x < length vs → v ≡ get_or vs x v → vec_items_at vs x ≡ v.items
 list_read vs x v l e =
-    same_some (list_at vs x) v.items (sym (list_stands vs x l) ∙ slice_get-map (λ (w : Vec ℕ Global). w.items) vs x ∙ ap (option_map (λ (w : Vec ℕ Global). w.items)) (slice_get_at vs x v l e))
+    same_some (vec_items_at vs x) v.items (sym (list_stands vs x l) ∙ slice_get-map (λ (w : Vec ℕ Global). w.items) vs x ∙ ap (option_map (λ (w : Vec ℕ Global). w.items)) (slice_get_at vs x v l e))
 
 -- ---- entries of a map, as items
 pub items_unfolded : {L : Type 0} (meaning : L → Bits) (items : List (Dotted Nil)) (entries : List (ℕ × L)) →
@@ -62,7 +62,7 @@ meant_ascend meaning items ascend i j x y l at_i at_j =
     subst (λ (z : Dotted Bits). Precedes x z) b.2 (subst (λ (z : Dotted Bits). Precedes z (meant meaning b.0)) a.2 (ascend i j a.0 b.0 l a.1 b.1))
 
 module _ {L : Type 0} (meaning : L → Bits) (begins : Rules → List Symbol → Token → Type 0) (passes : Rules → List Symbol → Type 0) (g : Rules) (n : Numbers) (numbers : AreNumbers g n) (list : List (Numbered L)) (known : AreNumbered n.items.items list)
-    (are_items : AreItemsBy meaning g (items_by n.items.items list)) (shared : Shared) (sharing : IsSharing begins passes g n (map (meant meaning) (items_by n.items.items list)) shared []) where
+    (are_items : AreItemsBy meaning g (items_by n.items.items list)) (shared : NonterminalTokens) (sharing : IsPropagation begins passes g n (map (meant meaning) (items_by n.items.items list)) shared []) where
   abbrev kernel : List (Dotted Bits)
   kernel = map (meant meaning) (items_by n.items.items list)
 
@@ -76,7 +76,7 @@ module _ {L : Type 0} (meaning : L → Bits) (begins : Rules → List Symbol →
     begun : ((front f).index ≡ 0) ⊎ InKernel kernel (front f).production (front f).index
     reached : Reached begins passes g n kernel (front f).production (front f).index
     tokens : (t : Token) → holds_token g.terminals f.1 t ≡ true → ReachedWith begins passes g n kernel (front f).production (front f).index t
-    gives : IsShared begins passes g n shared (front f)
+    gives : IsPropagated begins passes g n shared (front f)
     fits : FitsTokens g.terminals f.1
 
   abbrev part_of : Numbered L → ℕ × Bits
@@ -98,17 +98,17 @@ module _ {L : Type 0} (meaning : L → Bits) (begins : Rules → List Symbol →
       }
 
   -- the numbers of a nonterminal are those of its productions
-  expansions_at : (x : ℕ) → x < length n.symbols.items → (s : Symbol) × (slice_get n.symbols.items x ≡ Some s) × AreExpansions n.items.items s (list_at n.expansions.items x)
+  expansions_at : (x : ℕ) → x < length n.symbols.items → (s : Symbol) × (slice_get n.symbols.items x ≡ Some s) × AreExpansions n.items.items s (vec_items_at n.expansions.items x)
   expansions_at x l =
       let s = filled n.symbols.items x l in
-      (s.0, s.1, numbers.expansions x s.0 (list_at n.expansions.items x) s.1 (list_stands n.expansions.items x (omega (arith, numbers.expanded))))
+      (s.0, s.1, numbers.expansions x s.0 (vec_items_at n.expansions.items x) s.1 (list_stands n.expansions.items x (omega (arith, n.expanded))))
 
-  shared_front : (x : ℕ) (tokens : Bits) (k : ℕ) → Contains shared (x, tokens) → Contains (list_at n.expansions.items x) k → IsFront g n x tokens (front (k, tokens)) × (k < length n.items.items)
+  shared_front : (x : ℕ) (tokens : Bits) (k : ℕ) → Contains shared (x, tokens) → Contains (vec_items_at n.expansions.items x) k → IsExpansionWith g n x tokens (front (k, tokens)) × (k < length n.items.items)
   shared_front x tokens k c m =
       let s = expansions_at x (sharing.known (x, tokens) c) in
       let i = (s.2 k).0 m in
       let at : dotted_at n.items.items k ≡ i.0 = at_number n.items.items k i.0 i.1 in (
-        subst (λ (d : Dotted Nil). IsFront g n x tokens (record { production = d.production; index = d.index; lookahead = tokens })) (sym at) (record {
+        subst (λ (d : Dotted Nil). IsExpansionWith g n x tokens (record { production = d.production; index = d.index; lookahead = tokens })) (sym at) (record {
           start = i.2;
           among = (numbers.items.each i.0 (contains_at n.items.items i.0 k i.1)).0;
           named = s.1 ∙ ap Some i.3;
@@ -117,10 +117,10 @@ module _ {L : Type 0} (meaning : L → Bits) (begins : Rules → List Symbol →
         slice_get_within n.items.items k i.0 i.1,
       )
 
-  done : (e : ℕ × Bits) → Contains shared e → (i : Dotted Bits) → IsFront g n e.0 e.1 i → IsShared begins passes g n shared i
+  done : (e : ℕ × Bits) → Contains shared e → (i : Dotted Bits) → IsExpansionWith g n e.0 e.1 i → IsPropagated begins passes g n shared i
   done e c i f = elim (sharing.shared e c) [ inl none ↦ absurd (Contains-none e.0 none) | inr all ↦ all i f ]
 
-  front_part : (x : ℕ) (tokens : Bits) (k : ℕ) → Contains shared (x, tokens) → Contains (list_at n.expansions.items x) k → IsPart (k, tokens)
+  front_part : (x : ℕ) (tokens : Bits) (k : ℕ) → Contains shared (x, tokens) → Contains (vec_items_at n.expansions.items x) k → IsPart (k, tokens)
   front_part x tokens k c m =
       let f = shared_front x tokens k c m in
       record {
@@ -135,15 +135,15 @@ module _ {L : Type 0} (meaning : L → Bits) (begins : Rules → List Symbol →
   abbrev parts : List (ℕ × Bits)
   parts = parts_in meaning list ++ unfolded n shared
 
-  abbrev fronts_of : ℕ × Bits → List (ℕ × Bits)
-  fronts_of e = with_tokens e.1 (list_at n.expansions.items e.0)
+  abbrev expansions_of : ℕ × Bits → List (ℕ × Bits)
+  expansions_of e = with_tokens e.1 (vec_items_at n.expansions.items e.0)
 
   are_parts : (f : ℕ × Bits) → Contains parts f → IsPart f
   are_parts f c = elim (Contains-append_cases (parts_in meaning list) (unfolded n shared) f c) [
     | inl own ↦ let e = contains_of_map part_of list f own in subst IsPart e.2 (kernel_part e.0 e.1)
     | inr more ↦
-        let e = of_flat fronts_of shared f more in
-        let k = contains_of_map (λ (k : ℕ). (k, e.0.1)) (list_at n.expansions.items e.0.0) f e.2 in
+        let e = of_flat expansions_of shared f more in
+        let k = contains_of_map (λ (k : ℕ). (k, e.0.1)) (vec_items_at n.expansions.items e.0.0) f e.2 in
         subst IsPart k.2 (front_part e.0.0 e.0.1 k.0 e.1 k.1)
   ]
 
@@ -152,7 +152,7 @@ module _ {L : Type 0} (meaning : L → Bits) (begins : Rules → List Symbol →
     abbrev decoded : ℕ × Bits → Dotted Nil × Bits
     decoded e = (dotted_at n.items.items e.0, e.1)
 
-    abbrev found : Found
+    abbrev found : ClosureTable
     found = map decoded table
 
     part_at : (e : ℕ × Bits) → Contains table e → (f : ℕ × Bits) × IsPart f × (f.0 ≡ e.0)
@@ -174,30 +174,30 @@ module _ {L : Type 0} (meaning : L → Bits) (begins : Rules → List Symbol →
 
     -- the tokens that a part gives to a production of the nonterminal after its dot are found
     module _ (q : Production) (after : List Symbol) (among : Contains g.productions q) where
-      owed : (f : ℕ × Bits) → IsPart f → drop (front f).index (front f).production.symbols ≡ Nonterminal q.nonterminal ∷ after → (x : ℕ) × IsNamed n x q.nonterminal × HasShare begins passes g n shared (front f) x after
+      owed : (f : ℕ × Bits) → IsPart f → drop (front f).index (front f).production.symbols ≡ Nonterminal q.nonterminal ∷ after → (x : ℕ) × IsNamed n x q.nonterminal × HasTokensThatFollow begins passes g n shared (front f) x after
       owed f p behind = p.gives q after behind among
 
-      front_number : (x : ℕ) (tokens : Bits) → IsNamed n x q.nonterminal → Contains shared (x, tokens) → (k : ℕ) × Contains (list_at n.expansions.items x) k × (dotted_at n.items.items k ≡ begun_of q)
+      front_number : (x : ℕ) (tokens : Bits) → IsNamed n x q.nonterminal → Contains shared (x, tokens) → (k : ℕ) × Contains (vec_items_at n.expansions.items x) k × (dotted_at n.items.items k ≡ lr0_at_start q)
       front_number x tokens named c =
           let s = expansions_at x (sharing.known (x, tokens) c) in
           let same : s.0 ≡ Nonterminal q.nonterminal = same_some s.0 (Nonterminal q.nonterminal) (sym s.1 ∙ named) in
-          let p = place n.items.items (begun_of q) (numbers.items.all q 0 among (omega arith)) in
-          (p.0, (s.2 p.0).1 (begun_of q, p.2, refl, same), at_number n.items.items p.0 (begun_of q) p.2)
+          let p = place n.items.items (lr0_at_start q) (numbers.items.all q 0 among (omega arith)) in
+          (p.0, (s.2 p.0).1 (lr0_at_start q, p.2, refl, same), at_number n.items.items p.0 (lr0_at_start q) p.2)
 
-      shared_found : (x : ℕ) (tokens : Bits) → IsNamed n x q.nonterminal → Contains shared (x, tokens) → IsFound found (begun_of q) tokens
+      shared_found : (x : ℕ) (tokens : Bits) → IsNamed n x q.nonterminal → Contains shared (x, tokens) → IsFound found (lr0_at_start q) tokens
       shared_found x tokens named c =
           let k = front_number x tokens named c in
-          let e = Contains-append_right (parts_in meaning list) (unfolded n shared) (k.0, tokens) (in_flat_map fronts_of shared (x, tokens) (k.0, tokens) c (contains_map (λ (k : ℕ). (k, tokens)) (list_at n.expansions.items x) k.0 k.1)) in
+          let e = Contains-append_right (parts_in meaning list) (unfolded n shared) (k.0, tokens) (in_flat_map expansions_of shared (x, tokens) (k.0, tokens) c (contains_map (λ (k : ℕ). (k, tokens)) (vec_items_at n.expansions.items x) k.0 k.1)) in
           subst (λ (d : Dotted Nil). IsFound found d tokens) k.2 (found_part (k.0, tokens) e)
 
-      settled_here : (e : ℕ × Bits) → Contains table e → drop (front e).index (front e).production.symbols ≡ Nonterminal q.nonterminal ∷ after → HasGiven begins passes g found e.1 q after
+      settled_here : (e : ℕ × Bits) → Contains table e → drop (front e).index (front e).production.symbols ≡ Nonterminal q.nonterminal ∷ after → HasPropagated begins passes g found e.1 q after
       settled_here e c behind =
           let f = part_at e c in
           let move : (m : ℕ) (b : Bits) → m ≡ e.0 → drop (front (m, b)).index (front (m, b)).production.symbols ≡ Nonterminal q.nonterminal ∷ after = λ m b same. subst (λ (k : ℕ). drop (dotted_at n.items.items k).index (dotted_at n.items.items k).production.symbols ≡ Nonterminal q.nonterminal ∷ after) (sym same) behind in
           let o = owed f.0 f.1 (move f.0.0 f.0.1 f.2) in
           let s = shared_found o.0 o.2.set o.1 o.2.entry in
           record {
-            key = begun_of q;
+            key = lr0_at_start q;
             production = refl;
             start = refl;
             set = s.set;
@@ -233,7 +233,7 @@ module _ {L : Type 0} (meaning : L → Bits) (begins : Rules → List Symbol →
       settled = λ e c q after behind among.
           let m = found_of e c in
           let at = subst (λ (d : Dotted Nil × Bits). drop d.0.index d.0.production.symbols ≡ Nonterminal q.nonterminal ∷ after) (sym m.2) behind in
-          subst (λ (d : Dotted Nil × Bits). HasGiven begins passes g found d.1 q after) m.2 (settled_here q after among m.0 m.1 at);
+          subst (λ (d : Dotted Nil × Bits). HasPropagated begins passes g found d.1 q after) m.2 (settled_here q after among m.0 m.1 at);
     }
 
     found_item : (e : ℕ × Bits) → Contains table e → IsItemOf g (front e)

@@ -7,7 +7,7 @@ use Rattle.std.proofs.lemmas.Option.{slice_get-map}
 use Rattle.lalrpop_base.specs.Words.{Bits, has, contents_of, holds_token, no_contents, reduction_of, AllDiffer, state_conflicts}
 use Rattle.lalrpop_construction.specs.Words.{FitReductions}
 use Rattle.lalrpop_grammar.specs.conflicts.Conflicts.{HasNoConflict as HoldsNoConflict}
-use Rattle.lalrpop_states.specs.conflicts.StateConflicts.{HasNoConflict}
+use Rattle.lalrpop_states.specs.conflicts.StateConflicts.{IsConflictFree}
 use Rattle.lalrpop_grammar.specs.states.States.{Reduction}
 use Rattle.lalrpop_construction.proofs.Types.{Production, State, TerminalString, Token}
 use Rattle.lalrpop_grammar.specs.declared.lookahead.token.Token.TheVariants.{Terminal as TokenOf}
@@ -28,7 +28,7 @@ pub nowhere_conflict : HoldsNoConflict no_contents
 nowhere_conflict = record { shifts = λ x n r e. cc; reductions = λ i j r q t l at. cc }
 
 module _ (terminals : List TerminalString) (s : State Bits) where
-  shift_free : HasNoConflict terminals s → (x : TerminalString) (n : ℕ) (r : Reduction) → (contents_of (holds_token terminals) s).shift x ≡ Some n → Contains (contents_of (holds_token terminals) s).reductions r → r.holds (TokenOf x) ≡ true → ⊥
+  shift_free : IsConflictFree terminals s → (x : TerminalString) (n : ℕ) (r : Reduction) → (contents_of (holds_token terminals) s).shift x ≡ Some n → Contains (contents_of (holds_token terminals) s).reductions r → r.holds (TokenOf x) ≡ true → ⊥
   shift_free none x n r e c h =
       let edge = leads_transition (holds_token terminals) s (Terminal x) n e in
       let k = place s.shifts.entries (x, edge.0) edge.2 in
@@ -40,7 +40,7 @@ module _ (terminals : List TerminalString) (s : State Bits) where
   stands : (k : ℕ) (r : Reduction) → slice_get (contents_of (holds_token terminals) s).reductions k ≡ Some r → (q : CodeReduction) × (slice_get s.reductions.items k ≡ Some q) × (reduction_of (holds_token terminals) q ≡ r)
   stands k r at = some_of_map (reduction_of (holds_token terminals)) (slice_get s.reductions.items k) r (sym (slice_get-map (reduction_of (holds_token terminals)) s.reductions.items k) ∙ at)
 
-  reduction_free : HasNoConflict terminals s → (i j : ℕ) (r q : Reduction) (t : Token) → i < j → slice_get (contents_of (holds_token terminals) s).reductions i ≡ Some r → slice_get (contents_of (holds_token terminals) s).reductions j ≡ Some q → r.holds t ≡ true → q.holds t ≡ true → ⊥
+  reduction_free : IsConflictFree terminals s → (i j : ℕ) (r q : Reduction) (t : Token) → i < j → slice_get (contents_of (holds_token terminals) s).reductions i ≡ Some r → slice_get (contents_of (holds_token terminals) s).reductions j ≡ Some q → r.holds t ≡ true → q.holds t ≡ true → ⊥
   reduction_free none i j r q t l at_i at_j h k =
       let a = stands i r at_i in
       let b = stands j q at_j in
@@ -49,10 +49,10 @@ module _ (terminals : List TerminalString) (s : State Bits) where
       let same : second.0 ≡ first.0 = same_some second.0 first.0 (sym second.1 ∙ first.1) in
       none.reductions i j first.0 a.0 b.0 l a.1 b.1 first.2 (subst (λ (n : ℕ). has (b.0).0 n ≡ true) same second.2)
 
-  pub free_contents : HasNoConflict terminals s → HoldsNoConflict (contents_of (holds_token terminals) s)
+  pub free_contents : IsConflictFree terminals s → HoldsNoConflict (contents_of (holds_token terminals) s)
   free_contents none = record { shifts = shift_free none; reductions = reduction_free none }
 
-  pub contents_free : AllDiffer terminals → FitReductions terminals s → HoldsNoConflict (contents_of (holds_token terminals) s) → HasNoConflict terminals s
+  pub contents_free : AllDiffer terminals → FitReductions terminals s → HoldsNoConflict (contents_of (holds_token terminals) s) → IsConflictFree terminals s
   contents_free differ fits none = record {
     shifts = λ k j bit t target r at_k at at_j h.
         let found = transition_leads (holds_token terminals) s (Terminal t) target (place_contains s.shifts.entries k (t, target) at_k) in
@@ -66,7 +66,7 @@ module _ (terminals : List TerminalString) (s : State Bits) where
   }
 
 -- no conflict is listed if no state has one
-pub none_listed : (terminals : List TerminalString) (states : List (State Bits)) → ((n : ℕ) (s : State Bits) → slice_get states n ≡ Some s → HasNoConflict terminals s) → flat_map (state_conflicts terminals) states ≡ []
+pub none_listed : (terminals : List TerminalString) (states : List (State Bits)) → ((n : ℕ) (s : State Bits) → slice_get states n ≡ Some s → IsConflictFree terminals s) → flat_map (state_conflicts terminals) states ≡ []
 none_listed terminals [] none = refl
 none_listed terminals (s ∷ states) none =
     let first : state_conflicts terminals s ≡ [] = (none_exactly terminals s).1 (none 0 s refl) in

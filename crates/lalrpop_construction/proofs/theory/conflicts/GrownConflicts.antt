@@ -3,9 +3,9 @@ use Rattle.std.proofs.Common.{◌≡◌, zero, suc, List, [], ◌∷◌, ◌++�
 use Rattle.std.specs.List.{flat_map}
 use Rattle.std.proofs.lemmas.List.{append-nil}
 use Rattle.std.proofs.lemmas.Grind.{flat_map-append}
-use Rattle.lalrpop_base.specs.Words.{Bits, HaveNoConflict, Rules, IsClosureBy, ListsAll, more, state_conflicts, begun, AreBuiltBy}
+use Rattle.lalrpop_base.specs.Words.{Bits, AreAllConflictFree, Rules, IsClosureBy, ListsAll, more, state_conflicts, item_at_start, AreBuiltBy}
 use Rattle.lalrpop_construction.specs.Words.{Construction, AreStatesFor}
-use Rattle.lalrpop_states.specs.conflicts.StateConflicts.{HasNoConflict}
+use Rattle.lalrpop_states.specs.conflicts.StateConflicts.{IsConflictFree}
 use Rattle.lalrpop_states.proofs.theory.conflicts.ConflictLemmas.{none_exactly, both_empty}
 use Rattle.lalrpop_collections.proofs.theory.lists.Places.{same_some}
 use Rattle.lalrpop_construction.proofs.Types.{Conflict, State, Symbol, TerminalString, Token}
@@ -27,20 +27,20 @@ module _ {L : Type 0} (own : List TerminalString → State L → List (Conflict 
       let one : flat_map f (state ∷ []) ≡ f state = append-nil (f state) in
       n ∙ ap (λ cs. cs ++ here) (All-listed h) ∙ ap (λ cs. flat_map f before ++ cs) (e ∙ sym one) ∙ sym (flat_map-append f before (state ∷ [])) ∙ ap (flat_map f) (sym s)
 
-pub free_states : (terminals : List TerminalString) (states : List (State Bits)) → flat_map (state_conflicts terminals) states ≡ [] → HaveNoConflict terminals states
+pub free_states : (terminals : List TerminalString) (states : List (State Bits)) → flat_map (state_conflicts terminals) states ≡ [] → AreAllConflictFree terminals states
 free_states terminals [] e k state at = cc
 free_states terminals (s ∷ states) e zero state at =
     let first = both_empty (state_conflicts terminals s) (flat_map (state_conflicts terminals) states) e in
-    subst (λ (x : State Bits). HasNoConflict terminals x) (same_some s state at) ((none_exactly terminals s).0 first.0)
+    subst (λ (x : State Bits). IsConflictFree terminals x) (same_some s state at) ((none_exactly terminals s).0 first.0)
 free_states terminals (s ∷ states) e (suc k) state at =
     let first = both_empty (state_conflicts terminals s) (flat_map (state_conflicts terminals) states) e in
     free_states terminals states first.1 k state at
 
 -- ---- the states
 module _ {L : Type 0} (meaning : L → Bits) (begins : Rules → List Symbol → Token → Type 0) (passes : Rules → List Symbol → Type 0) (lists : State L → List TerminalString → List (Conflict L) → Type 0) (c : Construction L) where
-  pub States-of : (states : List (State L)) → AreBuiltBy (IsClosureBy meaning begins passes c.rules) (map (begun c.lookahead) c.first) states → AreStatesFor meaning begins passes lists c states
+  pub States-of : (states : List (State L)) → AreBuiltBy (IsClosureBy meaning begins passes c.rules) (map (item_at_start c.lookahead) c.first) states → AreStatesFor meaning begins passes lists c states
   States-of states b =
-      let first = map (begun c.lookahead) c.first in
+      let first = map (item_at_start c.lookahead) c.first in
       record {
         built = b;
         some = Built-some (IsClosureBy meaning begins passes c.rules) (λ k is x. x.begun) first states b;

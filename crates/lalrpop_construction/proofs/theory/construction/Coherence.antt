@@ -2,7 +2,7 @@
 use Rattle.std.proofs.Common.{◌≡◌, ℕ, ◌+◌, ◌-◌, ◌<◌, ◌⊎◌, inl, inr, List, [], ◌∷◌, length, get_or, map, refl, sym, ◌∙◌, ap, subst, arith, ⊎_elim, Bool, true, false, cond, Some, eqb-true, option_map}
 use Rattle.std.specs.Prelude.{Contains, slice_get, ◌==◌}
 use Rattle.std.proofs.lemmas.Option.{slice_get_within, slice_get-get_or, slice_get-map}
-use Rattle.lalrpop_base.specs.Words.{Bits, HasItem, IsShifted, IsCoherentStep, AreFinished, AreCoherent, Dotted, Rules, Kernels, InKernel, AreItemsBy, Leads}
+use Rattle.lalrpop_base.specs.Words.{Bits, HasItem, IsShiftedFrom, IsCoherentStep, AreFinished, AreCoherent, Dotted, Rules, Kernels, InKernel, AreItemsBy, ItemsLeadTo}
 use Rattle.lalrpop_base.specs.Words.{IsBuiltBy, IsBuiltOfBy, Extends, LeadsToAdded, AreBuiltBy, IsBehindOne, Shifts, Groups, AreMoves, AreEdges, reductions_of}
 use Rattle.lalrpop_base.specs.Words.{seen_reduction, shifted, AddsKernels}
 use Rattle.lalrpop_construction.proofs.Types.{Production, State, StateIndex, Symbol}
@@ -65,7 +65,7 @@ module _ {L : Type 0} where
 
   module _ (C : List (Dotted L) → List (Dotted L) → Type 0) (dots : (kernel items : List (Dotted L)) → C kernel items → (i : Dotted L) → Contains items i → (i.index ≡ 0) ⊎ InKernel kernel i.production i.index)
       (first : List (Dotted L)) (states : List (State L)) (b : AreBuiltBy C first states) where
-    came : (items : List (Dotted L)) (x : Symbol) (kernel : List (Dotted L)) (j : Dotted L) → Shifts x items kernel → Contains (map dotted_of kernel) (j.production, j.index) → IsShifted items x j
+    came : (items : List (Dotted L)) (x : Symbol) (kernel : List (Dotted L)) (j : Dotted L) → Shifts x items kernel → Contains (map dotted_of kernel) (j.production, j.index) → IsShiftedFrom items x j
     came items x kernel j s c =
         let k = of_dotted kernel (j.production, j.index) c in
         let f = Shifts-from x items kernel s k.0 k.1 in
@@ -78,7 +78,7 @@ module _ {L : Type 0} where
           origin = has_item items f.item j.production (j.index - 1) f.among p before;
         }
 
-    step : (state : State L) (items : List (Dotted L)) (x : Symbol) (target : StateIndex) → Leads items b.kernels x target → IsCoherentStep states items x target.0
+    step : (state : State L) (items : List (Dotted L)) (x : Symbol) (target : StateIndex) → ItemsLeadTo items b.kernels x target → IsCoherentStep states items x target.0
     step state items x target l =
         let in_list = slice_get_within b.kernels target.0 l.kernel l.numbered in
         let counted = b.counted in

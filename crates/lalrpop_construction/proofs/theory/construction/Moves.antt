@@ -4,7 +4,7 @@ use Rattle.std.specs.Prelude.{Contains, slice_get, ◌==◌}
 use Rattle.std.specs.Map.{keys_of}
 use Rattle.std.proofs.lemmas.List.Elements.{Contains-append_left, Contains-append_right, Contains-append_cases, Contains-push_cases, Contains-push}
 use Rattle.lalrpop_base.specs.Words.{Dotted, AllDiffer, Kernels, IsPushedAt, IsBehind, IsBehindOne, Shifts, Groups, HasNoGroup, AreMoves, IsMoveAdded, AreEdges}
-use Rattle.lalrpop_base.specs.Words.{reductions_of, shifted, AreEdgesListed, Entries, HasEntry, IsEntryAdded, LeadsTo, edge_entries, list_entries, AddsKernels}
+use Rattle.lalrpop_base.specs.Words.{reductions_of, shifted, AreEdgesListed, Entries, HasEntry, IsEntryAdded, GroupLeadsTo, edge_entries, list_entries, AddsKernels}
 use Rattle.lalrpop_construction.proofs.Types.{NonterminalString, Production, StateIndex, Symbol, TerminalString}
 use Rattle.lalrpop_grammar.specs.declared.repr.Symbol.TheVariants.{Nonterminal, Terminal}
 use Rattle.lalrpop_collections.specs.lists.Entries.IsPushedAt.{fresh, known}
@@ -190,11 +190,11 @@ module _ {L : Type 0} where
   -- ---- one more edge
   -- the entries lead to the kernels of the first groups
   pub record AreSomeEdges (groups first : Groups L) (old new : Kernels (List (Dotted L))) (entries : Entries) : Type 0 where
-    pub leads : (x : Symbol) (target : StateIndex) → HasEntry entries x target → LeadsTo groups new.list x target
+    pub leads : (x : Symbol) (target : StateIndex) → HasEntry entries x target → GroupLeadsTo groups new.list x target
     pub all : (x : Symbol) (kernel : List (Dotted L)) → Contains first (x, kernel) → (target : StateIndex) × HasEntry entries x target
     pub reached : AddsKernels groups old new
 
-  leads_longer : (groups : Groups L) (list more : List (List (Dotted L))) (new : List (List (Dotted L))) → new ≡ list ++ more → (x : Symbol) (target : StateIndex) → LeadsTo groups list x target → LeadsTo groups new x target
+  leads_longer : (groups : Groups L) (list more : List (List (Dotted L))) (new : List (List (Dotted L))) → new ≡ list ++ more → (x : Symbol) (target : StateIndex) → GroupLeadsTo groups list x target → GroupLeadsTo groups new x target
   leads_longer groups list more new e x target l = record { kernel = l.kernel; group = l.group; numbered = subst (λ (ks : List (List (Dotted L))). slice_get ks target.0 ≡ Some l.kernel) (sym e) (slice_get-longer list more target.0 l.kernel l.numbered) }
 
   module _ (groups : Groups L) (x : Symbol) (kernel : List (Dotted L)) (group : Contains groups (x, kernel)) where
@@ -223,7 +223,7 @@ module _ {L : Type 0} where
         record {
           leads = λ y n h. elim (entry_from x target before after a y n h) [
             | inl had ↦ leads_longer groups middle.list more.0 new.list more.1 y n (s.leads y n had)
-            | inr is ↦ subst (λ (z : Symbol). LeadsTo groups new.list z n) (sym is.0) (subst (λ (m : StateIndex). LeadsTo groups new.list x m) (sym is.1) (record { kernel = kernel; group = group; numbered = numbered }))
+            | inr is ↦ subst (λ (z : Symbol). GroupLeadsTo groups new.list z n) (sym is.0) (subst (λ (m : StateIndex). GroupLeadsTo groups new.list x m) (sym is.1) (record { kernel = kernel; group = group; numbered = numbered }))
           ];
           all = λ y k c. elim (Contains-push_cases first (x, kernel) (y, k) c) [
             | inl had ↦ let e = s.all y k had in (e.0, entry_kept x target before after a y e.0 e.1)

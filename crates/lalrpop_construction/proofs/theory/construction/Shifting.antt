@@ -6,7 +6,7 @@ use Rattle.std.specs.BTreeMap.{is_at}
 use Rattle.std.proofs.lemmas.Option.{slice_get_within}
 use Rattle.std.proofs.lemmas.Map.Entries.{place_from_lookup}
 use Rattle.lalrpop_base.specs.Words.{Bits, Dotted, AllDiffer, FitsTokens, Rules, rules_of, IsWellFormed, productions_of, listed_productions, name_cmp, IsItemBy}
-use Rattle.lalrpop_base.specs.Words.{AreItemsBy, begun, IsBehind, Shifts, shifted}
+use Rattle.lalrpop_base.specs.Words.{AreItemsBy, item_at_start, IsBehind, Shifts, shifted}
 use Rattle.lalrpop_construction.proofs.Types.{Grammar, NonterminalData, NonterminalString, Production, Symbol}
 use Rattle.lalrpop_states.specs.closures.Closure.{dotted_of}
 use Rattle.lalrpop_states.specs.construction.Transitions.Shifts.{none, moves, stays}
@@ -72,21 +72,21 @@ module _ {L : Type 0} where
   Shifts-differ x items kernel (stays {i} {items = is} {kernel = ks} b s) d = Shifts-differ x is ks s (differ_tail (i.production, i.index) (map dotted_of is) d)
 
   -- ---- the kernel of the start
-  begun_at : (s : L) (ps : List Production) (k : ℕ) (d : Production × ℕ) → slice_get (map dotted_of (map (begun s) ps)) k ≡ Some d → slice_get ps k ≡ Some d.0
+  begun_at : (s : L) (ps : List Production) (k : ℕ) (d : Production × ℕ) → slice_get (map dotted_of (map (item_at_start s) ps)) k ≡ Some d → slice_get ps k ≡ Some d.0
   begun_at s [] k d h = cc
   begun_at s (p ∷ ps) zero d h = ap Some (ap (λ (x : Production × ℕ). x.0) (same_some (p, 0) d h))
   begun_at s (p ∷ ps) (suc k) d h = begun_at s ps k d h
 
-  pub begun_zero : (s : L) (ps : List Production) (d : Production × ℕ) → Contains (map dotted_of (map (begun s) ps)) d → d.1 ≡ 0
+  pub begun_zero : (s : L) (ps : List Production) (d : Production × ℕ) → Contains (map dotted_of (map (item_at_start s) ps)) d → d.1 ≡ 0
   begun_zero s [] d c = absurd (Contains-none d c)
-  begun_zero s (p ∷ ps) d c = elim (contains-cons (p, 0) (map dotted_of (map (begun s) ps)) d c) [
+  begun_zero s (p ∷ ps) d c = elim (contains-cons (p, 0) (map dotted_of (map (item_at_start s) ps)) d c) [
     | inl e ↦ ap (λ (x : Production × ℕ). x.1) (sym e)
     | inr later ↦ begun_zero s ps d later
   ]
 
-  pub begun_in : (s : L) (ps : List Production) (i : Dotted L) → Contains (map (begun s) ps) i → (p : Production) × Contains ps p × (begun s p ≡ i)
+  pub begun_in : (s : L) (ps : List Production) (i : Dotted L) → Contains (map (item_at_start s) ps) i → (p : Production) × Contains ps p × (item_at_start s p ≡ i)
   begun_in s [] i c = absurd (Contains-none i c)
-  begun_in s (p ∷ ps) i c = elim (contains-cons (begun s p) (map (begun s) ps) i c) [
+  begun_in s (p ∷ ps) i c = elim (contains-cons (item_at_start s p) (map (item_at_start s) ps) i c) [
     | inl e ↦ (p, contains_head p ps, e)
     | inr later ↦ let r = begun_in s ps i later in (r.0, contains_tail p ps r.0 r.1, r.2)
   ]
@@ -97,7 +97,7 @@ listed_differ g name (Some entry) w e = let at = place_from_lookup (is_at (name_
 
 module _ {L : Type 0} where
   -- no production of a nonterminal is in the kernel of the start twice
-  pub begun_differ : (g : Grammar) (start : NonterminalString) (s : L) → IsWellFormed g → AllDiffer (map dotted_of (map (begun s) (productions_of g start)))
+  pub begun_differ : (g : Grammar) (start : NonterminalString) (s : L) → IsWellFormed g → AllDiffer (map dotted_of (map (item_at_start s) (productions_of g start)))
   begun_differ g start s w i j x l at_i at_j =
       let ps = productions_of g start in
       listed_differ g start (lookup (is_at (name_cmp start)) g.nonterminals.entries) w refl i j x.0 l (begun_at s ps i x at_i) (begun_at s ps j x at_j)
@@ -113,7 +113,7 @@ module _ {L : Type 0} (meaning : L → Bits) where
     differ = Shifts-differ x items kernel s a.differ;
   }
 
-  pub Start-items : (g : Grammar) (start : NonterminalString) (s : L) → IsWellFormed g → FitsTokens g.terminals (meaning s) → AreItemsBy meaning (rules_of g) (map (begun s) (productions_of g start))
+  pub Start-items : (g : Grammar) (start : NonterminalString) (s : L) → IsWellFormed g → FitsTokens g.terminals (meaning s) → AreItemsBy meaning (rules_of g) (map (item_at_start s) (productions_of g start))
   Start-items g start s w f =
       let ps = productions_of g start in
       record {

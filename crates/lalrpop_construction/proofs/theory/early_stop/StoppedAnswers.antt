@@ -11,7 +11,7 @@ use Rattle.lalrpop_construction.specs.Words.{ArePartlyBuilt, AreEnough, GoesOnBe
 use Rattle.lalrpop_construction.proofs.theory.canonical.CanonicalContents.{are_canonical}
 use Rattle.lalrpop_construction.proofs.theory.conflicts.GrownConflicts.{All-listed, States-of}
 use Rattle.lalrpop_construction.proofs.theory.early_stop.StoppedConflicts.{conflict_not_lr1}
-use Rattle.lalrpop_construction.proofs.theory.early_stop.StoppedStates.{begun_kernel, some_canonical_states}
+use Rattle.lalrpop_construction.proofs.theory.early_stop.StoppedStates.{kernel_at_start, some_canonical_states}
 use Rattle.lalrpop_construction.proofs.theory.closures.TokenTables.{Passes, Lists, built_of_by, closed, states_of}
 
 -- the canonical construction, with early stop
@@ -20,7 +20,7 @@ stopping g start stop_after = record { construction = canonical_of g start; stop
 
 module _ (g : Grammar) (start : NonterminalString) (well : IsWellFormed g) (own : AreOwn g) (differ : AllDiffer g.terminals) (stop_after : ℕ) where
   module _ (states : List (State Bits)) (conflicts : List (Conflict Bits)) (m : AreMadeFor itself Begins Passes Lists (stopping g start stop_after) states conflicts) (some : conflicts ≢ []) where
-    built : ArePartlyBuilt (rules_of g) (begun_kernel g start) states
+    built : ArePartlyBuilt (rules_of g) (kernel_at_start g start) states
     built = record {
       kernels = m.built.kernels;
       fewer = m.built.fewer;
@@ -50,7 +50,7 @@ module _ (g : Grammar) (start : NonterminalString) (well : IsWellFormed g) (own 
     pub stops : StopsAfter (rules_of g) start stop_after states conflicts
     stops = record {
       states_are = some_canonical_states g start well own states built differ;
-      made = (begun_kernel g start, built);
+      made = (kernel_at_start g start, built);
       conflicts_are = record { all = listed; some = some };
       goes_on = goes_on;
       either = enough_or_all (cases_lt 0 stop_after) (cases_lt (length conflicts) stop_after);

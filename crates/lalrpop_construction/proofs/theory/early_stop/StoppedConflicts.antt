@@ -5,7 +5,7 @@ use Rattle.std.specs.Prelude.{Contains}
 use Rattle.std.specs.List.{flat_map}
 use Rattle.lalrpop_base.specs.Words.{Bits, holds_token, contents_of, Dotted, AllDiffer, state_conflicts, Contents, Action, Shift, Reduce, IsValidAction, IsLR1}
 use Rattle.lalrpop_base.specs.Words.{rules_of, productions, IsWellFormed, AreOwn, HasItemToken, IsClosureOf}
-use Rattle.lalrpop_states.specs.conflicts.StateConflicts.{HasNoConflict}
+use Rattle.lalrpop_states.specs.conflicts.StateConflicts.{IsConflictFree}
 use Rattle.lalrpop_grammar.specs.states.States.{Reduction}
 use Rattle.lalrpop_construction.proofs.Types.{Grammar, NonterminalString, Production, State, Symbol, TerminalString, Token}
 use Rattle.lalrpop_grammar.specs.declared.lookahead.token.Token.TheVariants.{Terminal as TokenOf}
@@ -18,7 +18,7 @@ use Rattle.lalrpop_construction.proofs.theory.canonical.CanonicalConflicts.{redu
 use Rattle.lalrpop_construction.proofs.theory.conflicts.ConflictFree.{contents_free, none_listed}
 use Rattle.lalrpop_construction.proofs.theory.construction.Reductions.{reduction_from, reduces_finished}
 use Rattle.lalrpop_construction.proofs.theory.construction.StateEdges.{leads_over_dots}
-use Rattle.lalrpop_construction.proofs.theory.early_stop.StoppedStates.{begun_kernel, some_canonical_states}
+use Rattle.lalrpop_construction.proofs.theory.early_stop.StoppedStates.{kernel_at_start, some_canonical_states}
 
 -- the action is a shift
 abbrev IsShift : Action → Type 0
@@ -47,7 +47,7 @@ module _ (g : Grammar) (start : NonterminalString) (list : List (List (Dotted Bi
       let with_token : HasItemToken g.terminals s.items.vec.items (i.0).production (length (i.0).production.symbols) t = record { item = i.0; there = i.1; is = is; holds = held } in
       subst (λ (q : Production). IsValidAction (productions g) start u t (Reduce q)) p ((for.tokens (i.0).production (length (i.0).production.symbols) t).0 with_token)
 
-  pub lr1_free : AllDiffer g.terminals → IsLR1 (productions g) start → HasNoConflict g.terminals s
+  pub lr1_free : AllDiffer g.terminals → IsLR1 (productions g) start → IsConflictFree g.terminals s
   lr1_free differ lr = contents_free g.terminals s differ (reductions_fit (rules_of g) s.items.vec.items s.reductions.items built.closure.are_items built.finished) (record {
     shifts = λ x n r e c h. subst IsShift (lr u (TokenOf x) (Shift x) (Reduce r.production) (shift_valid x n e) (reduction_valid r (TokenOf x) c h)) tt;
     reductions = λ i j r q t l at_i at_j h k.
@@ -56,7 +56,7 @@ module _ (g : Grammar) (start : NonterminalString) (list : List (List (Dotted Bi
   })
 
 -- the grammar is not LR(1) if a conflict is listed
-pub conflict_not_lr1 : (g : Grammar) (start : NonterminalString) → IsWellFormed g → AreOwn g → AllDiffer g.terminals → (states : List (State Bits)) → ArePartlyBuilt (rules_of g) (begun_kernel g start) states → (flat_map (state_conflicts g.terminals) states ≡ [] → ⊥) → ¬ IsLR1 (productions g) start
+pub conflict_not_lr1 : (g : Grammar) (start : NonterminalString) → IsWellFormed g → AreOwn g → AllDiffer g.terminals → (states : List (State Bits)) → ArePartlyBuilt (rules_of g) (kernel_at_start g start) states → (flat_map (state_conflicts g.terminals) states ≡ [] → ⊥) → ¬ IsLR1 (productions g) start
 conflict_not_lr1 g start well own differ states b some lr =
     let canonical = some_canonical_states g start well own states b differ in
     some (none_listed g.terminals states (λ n s at.

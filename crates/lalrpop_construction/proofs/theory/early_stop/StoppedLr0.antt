@@ -11,7 +11,7 @@ use Rattle.lalrpop_base.specs.Words.{AreOwn, InKernel}
 use Rattle.lalrpop_construction.specs.Words.{AreLr0States}
 use Rattle.lalrpop_construction.specs.Words.{ArePartlyBuiltBy, HasDotted, IsLr0StateFor, AreSomeLr0States, AreEnough, AreMadeFor}
 use Rattle.lalrpop_construction.specs.Words.{StopsFor, Lr0StopsAfter, FailsAfterLr0, Settings}
-use Rattle.lalrpop_base.specs.Words.{begun, HasTransition}
+use Rattle.lalrpop_base.specs.Words.{item_at_start, HasTransition}
 use Rattle.lalrpop_construction.proofs.theory.canonical.Canonical.{start_items, moved_items, InClosure-more}
 use Rattle.lalrpop_construction.proofs.theory.early_stop.PartlyBuilt.{apart, each_is, first_kernel, moved_from, over_kernel}
 use Rattle.lalrpop_construction.proofs.theory.construction.ClosedStates.{IsExactClosure, kernel_items}
@@ -31,15 +31,15 @@ module _ (g : Rules) (start : NonterminalString) (items kernel : List (Dotted Ni
     λ v. (closure.exact p dot).1 (InClosure-more g.productions A (InKernel kernel) (λ q d h. (kernel_is q d).1 h) ((valid p dot).1 v)),
   )
 
-abbrev begun_kernel : Grammar → NonterminalString → Nil → List (Dotted Nil)
-begun_kernel g start lookahead = map (begun lookahead) (productions_of g start)
+abbrev kernel_at_start : Grammar → NonterminalString → Nil → List (Dotted Nil)
+kernel_at_start g start lookahead = map (item_at_start lookahead) (productions_of g start)
 
-module _ (g : Grammar) (start : NonterminalString) (lookahead : Nil) (well : IsWellFormed g) (own : AreOwn g) (states : List (State Nil)) (b : ArePartlyBuiltBy (Closes (rules_of g)) (begun_kernel g start lookahead) states) where
+module _ (g : Grammar) (start : NonterminalString) (lookahead : Nil) (well : IsWellFormed g) (own : AreOwn g) (states : List (State Nil)) (b : ArePartlyBuiltBy (Closes (rules_of g)) (kernel_at_start g start lookahead) states) where
   abbrev Made : List (Dotted Nil) → List (Dotted Nil) → Type 0
   Made = Closes (rules_of g)
 
   abbrev first : List (Dotted Nil)
-  first = begun_kernel g start lookahead
+  first = kernel_at_start g start lookahead
 
   closure_of : (n : ℕ) (s : State Nil) (at : slice_get states n ≡ Some s) → IsExactClosure (rules_of g) (b.each n s at).kernel s.items.vec.items
   closure_of n s at = exactly (rules_of g) (b.each n s at).kernel s.items.vec.items (b.each n s at).built.closure
@@ -51,7 +51,7 @@ module _ (g : Grammar) (start : NonterminalString) (lookahead : Nil) (well : IsW
       let valid = λ (p : Production) (dot : ℕ). both_ways (valid_of_start (productions g) start {p = p} {dot = dot}) (λ v. start_of_valid (productions g) start v refl) in
       record {
         live = inl refl;
-        items = items_are (rules_of g) start s.items.vec.items (begun_kernel g start lookahead) closure (IsAtStart (productions g) start) (Valid (productions g) start []) (start_items g well own start lookahead) valid;
+        items = items_are (rules_of g) start s.items.vec.items (kernel_at_start g start lookahead) closure (IsAtStart (productions g) start) (Valid (productions g) start []) (start_items g well own start lookahead) valid;
       }
 
   -- ---- a state to which a transition leads
@@ -105,7 +105,7 @@ module _ (g : Grammar) (start : NonterminalString) (lookahead : Nil) (well : IsW
     stops : Lr0StopsAfter (rules_of g) start stop_after states conflicts
     stops = record {
       states_are = some_lr0_states g start lookahead well own states m.built;
-      made = (begun_kernel g start lookahead, m.built);
+      made = (kernel_at_start g start lookahead, m.built);
       conflicts_are = All-listed (λ terminals s. nil_conflicts s) g.terminals m.listed;
       some = some;
       goes_on = λ positive. let f = m.goes_on positive in subst (λ (cs : List (Conflict Nil)). length cs < stop_after) (All-listed (λ terminals s. nil_conflicts s) g.terminals f.all) f.fewer;

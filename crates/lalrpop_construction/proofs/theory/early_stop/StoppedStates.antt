@@ -7,7 +7,7 @@ use Rattle.lalrpop_base.specs.Words.{Valid, shifts, ValidToken, rules_of, produc
 use Rattle.lalrpop_construction.proofs.Types.{Grammar, NonterminalString, Production, State, StateIndex, Symbol, Token}
 use Rattle.lalrpop_states.specs.closures.Closure.{itself, dotted_of}
 use Rattle.lalrpop_construction.specs.Words.{ArePartlyBuilt, HasDotted, IsStateFor, HaveSameContents, AreSomeCanonicalStates}
-use Rattle.lalrpop_base.specs.Words.{begun, HasTransition}
+use Rattle.lalrpop_base.specs.Words.{item_at_start, HasTransition}
 use Rattle.lalrpop_construction.proofs.theory.canonical.Canonical.{start_items, start_tokens, moved_items, moved_tokens, InClosure-more}
 use Rattle.lalrpop_states.proofs.theory.closures.Closing.{drop_split}
 use Rattle.lalrpop_collections.proofs.theory.lists.Members.{contains_map}
@@ -21,8 +21,8 @@ use Rattle.lalrpop_collections.proofs.theory.lists.BothFacts.{then_both, turned_
 abbrev eof_of : Grammar → Bits
 eof_of g = with_bit no_bits (length g.terminals)
 
-abbrev pub begun_kernel : Grammar → NonterminalString → List (Dotted Bits)
-begun_kernel g start = map (begun (eof_of g)) (productions_of g start)
+abbrev pub kernel_at_start : Grammar → NonterminalString → List (Dotted Bits)
+kernel_at_start g start = map (item_at_start (eof_of g)) (productions_of g start)
 
 -- ---- a closure of the start, and of moved items
 module _ (g : Grammar) (start : NonterminalString) (items kernel : List (Dotted Bits)) (closure : IsClosureOf (rules_of g) kernel items) where
@@ -50,12 +50,12 @@ module _ (g : Grammar) (start : NonterminalString) (items kernel : List (Dotted 
       λ v. (closure.tokens p dot t).1 (tokens_along ps start V Here B (HasItemToken g.terminals kernel) (λ q d h. (items_are q d).1 h) (λ q d u h. (tokens_are q d u).1 h) ((valid_tokens p dot t).1 v)),
     )
 
-module _ (g : Grammar) (start : NonterminalString) (well : IsWellFormed g) (own : AreOwn g) (states : List (State Bits)) (b : ArePartlyBuilt (rules_of g) (begun_kernel g start) states) where
+module _ (g : Grammar) (start : NonterminalString) (well : IsWellFormed g) (own : AreOwn g) (states : List (State Bits)) (b : ArePartlyBuilt (rules_of g) (kernel_at_start g start) states) where
   abbrev Made : List (Dotted Bits) → List (Dotted Bits) → Type 0
   Made = IsClosureOf (rules_of g)
 
   abbrev first : List (Dotted Bits)
-  first = begun_kernel g start
+  first = kernel_at_start g start
 
   -- ---- state 0
   first_state : (s : State Bits) → slice_get states 0 ≡ Some s → IsStateFor (rules_of g) start [] s
@@ -67,8 +67,8 @@ module _ (g : Grammar) (start : NonterminalString) (well : IsWellFormed g) (own 
       let valid_tokens = λ (p : Production) (dot : ℕ) (t : Token). both_ways (token_of_start (productions g) start {p = p} {dot = dot} {t = t}) (λ v. start_of_token (productions g) start v refl) in
       record {
         live = inl refl;
-        items = items_are g start s.items.vec.items (begun_kernel g start) closure (IsAtStart (productions g) start) (IsAtStartWith (productions g) start) (Valid (productions g) start []) (ValidToken (productions g) start []) items tokens valid valid_tokens;
-        tokens = with_tokens g start s.items.vec.items (begun_kernel g start) closure (IsAtStart (productions g) start) (IsAtStartWith (productions g) start) (Valid (productions g) start []) (ValidToken (productions g) start []) items tokens valid valid_tokens;
+        items = items_are g start s.items.vec.items (kernel_at_start g start) closure (IsAtStart (productions g) start) (IsAtStartWith (productions g) start) (Valid (productions g) start []) (ValidToken (productions g) start []) items tokens valid valid_tokens;
+        tokens = with_tokens g start s.items.vec.items (kernel_at_start g start) closure (IsAtStart (productions g) start) (IsAtStartWith (productions g) start) (Valid (productions g) start []) (ValidToken (productions g) start []) items tokens valid valid_tokens;
       }
 
   -- ---- a state to which a transition leads

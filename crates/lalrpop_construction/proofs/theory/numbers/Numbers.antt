@@ -92,7 +92,7 @@ module _ (g : Rules) (n : Numbers) (numbers : AreNumbers g n) where
   pub within : (k : ℕ) (x : Option ℕ) → slice_get n.behind.items k ≡ Some x → k < length n.items.items
   within k x at =
       let l = slice_get_within n.behind.items k x at in
-      let same = numbers.counted in
+      let same = n.counted in
       omega arith
 
   is_behind : (k : ℕ) (x : Option ℕ) → slice_get n.behind.items k ≡ Some x → IsNumberBehind n.symbols.items (item k) x

@@ -1,17 +1,17 @@
 -- The transitions of a state by the numbers of their symbols, and the order of these numbers.
-use Rattle.std.proofs.Common.{◌≡◌, ◌∙◌, ◌<◌, ℕ, inl, inr, length, List, [], ◌∷◌, ◌++◌, sym, ap, subst, Some, option_map, append_assoc, append-nil, refl, arith}
+use Rattle.std.proofs.Common.{◌≡◌, ◌∙◌, ◌<◌, ℕ, inl, inr, length, List, [], ◌∷◌, ◌++◌, sym, ap, subst, Some, map, option_map, append_assoc, append-nil, refl, arith}
 use Rattle.std.specs.Prelude.{Contains, slice_get}
 use Rattle.std.specs.Map.{keys_of}
 use Rattle.std.proofs.lemmas.List.Elements.{Contains-append_left, Contains-push, Contains-push_cases}
 use Rattle.std.proofs.lemmas.Option.{slice_get-map, slice_get_within}
-use Rattle.lalrpop_base.specs.Words.{AllDiffer, NumbersAscend, AreEdgesListed, Entries, HasEntry, IsEntryAdded, edge_entries, list_entries}
+use Rattle.lalrpop_base.specs.Words.{AllDiffer, NumbersAscend, AreEdgesListed, StateEdge, Entries, HasEntry, IsEntryAdded, edge_entries, goto_edge, list_entries, shift_edge}
 use Rattle.lalrpop_grammar.specs.declared.repr.Symbol.TheVariants.{Nonterminal, Terminal}
 use Rattle.lalrpop_collections.proofs.theory.lists.Members.{Contains-none, place}
 use Rattle.lalrpop_collections.proofs.theory.lists.Places.{one_place, places_apart, push_cases, same_some}
 use Rattle.lalrpop_collections.proofs.theory.lists.Lists.{some_of_map}
 use Rattle.lalrpop_construction.proofs.Types.{NonterminalString, StateIndex, Symbol, TerminalString}
 use Rattle.lalrpop_construction.proofs.theory.construction.Moves.{edge_of, entry_from, entry_kept, entry_there, listed_of, no_entry}
-use Rattle.lalrpop_construction.specs.states.NumberedStates.{AddsGotos, AddsShifts, AreEdgesBy, AreListedBy, EdgesAscend, HasKeys, IsKeyAt}
+use Rattle.lalrpop_construction.specs.states.NumberedStates.{AddsEdges, AreEdgesBy, AreListedBy, EdgesAscend, HasKeys, IsKeyAt, with_edge, with_edges}
 use Rattle.lalrpop_states.specs.declared.lr1_core.transitions.TransitionLists.{TransitionLists}
 use Rattle.lalrpop_states.specs.declared.lr1_core.transitions.Transitions.{Transitions}
 
@@ -47,25 +47,26 @@ ListedBy-more symbols differ x m s at list old new before adds =
       ];
     }
 
--- an unchanged list has no gotos or shifts more
-pub Gotos-none : (symbols : List Symbol) (list : List (ℕ × ℕ)) → AddsGotos symbols list list []
-Gotos-none symbols list differ entries before = subst (λ (gotos : List (NonterminalString × StateIndex)). AreListedBy symbols list (record { shifts = entries.shifts; gotos = gotos })) (sym (append-nil entries.gotos)) before
+-- the last edge is added after the others of its kind
+with_last : (entries : Entries) (done : List StateEdge) (s : Symbol) (target : StateIndex) → IsEntryAdded s target (with_edges entries done) (with_edges entries (done ++ (s, target) ∷ []))
+with_last entries [] (Nonterminal a) target = (refl, refl)
+with_last entries [] (Terminal t) target = (refl, refl)
+with_last entries (e ∷ es) s target = with_last (with_edge entries e) es s target
 
-pub Shifts-none : (symbols : List Symbol) (list : List (ℕ × ℕ)) → AddsShifts symbols list list []
-Shifts-none symbols list differ entries before = subst (λ (shifts : List (TerminalString × StateIndex)). AreListedBy symbols list (record { shifts = shifts; gotos = entries.gotos })) (sym (append-nil entries.shifts)) before
+-- the list has one edge more
+pub Edges-more : (symbols : List Symbol) (old middle new : List (ℕ × ℕ)) (done : List StateEdge) (s : Symbol) (x m : ℕ) → slice_get symbols x ≡ Some s → new ≡ middle ++ (x, m) ∷ [] → AddsEdges symbols old middle done → AddsEdges symbols old new (done ++ (s, record { 0 = m }) ∷ [])
+Edges-more symbols old middle new done s x m at push before differ entries was =
+    let all : List StateEdge = done ++ (s, record { 0 = m }) ∷ [] in
+    subst (λ (es : List (ℕ × ℕ)). AreListedBy symbols es (with_edges entries all)) (sym push) (ListedBy-more symbols differ x m s at middle (with_edges entries done) (with_edges entries all) (before differ entries was) (with_last entries done s (record { 0 = m })))
 
--- the list has one goto more, or one shift more
-pub Gotos-more : (symbols : List Symbol) (old middle new : List (ℕ × ℕ)) (done : List (NonterminalString × StateIndex)) (a : NonterminalString) (x m : ℕ) → slice_get symbols x ≡ Some (Nonterminal a) → new ≡ middle ++ (x, m) ∷ [] → AddsGotos symbols old middle done → AddsGotos symbols old new (done ++ (a, record { 0 = m }) ∷ [])
-Gotos-more symbols old middle new done a x m at push before differ entries was =
-    let first : Entries = record { shifts = entries.shifts; gotos = entries.gotos ++ done } in
-    let second : Entries = record { shifts = entries.shifts; gotos = entries.gotos ++ (done ++ (a, record { 0 = m }) ∷ []) } in
-    subst (λ (es : List (ℕ × ℕ)). AreListedBy symbols es second) (sym push) (ListedBy-more symbols differ x m (Nonterminal a) at middle first second (before differ entries was) (sym (append_assoc entries.gotos done ((a, record { 0 = m }) ∷ [])), refl))
+-- gotos and shifts, as edges, are added to the entries of their kind
+pub with_gotos : (entries : Entries) (gotos : List (NonterminalString × StateIndex)) → with_edges entries (map goto_edge gotos) ≡ record { shifts = entries.shifts; gotos = entries.gotos ++ gotos }
+with_gotos entries [] = ap (λ (gs : List (NonterminalString × StateIndex)). let all : Entries = record { shifts = entries.shifts; gotos = gs } in all) (sym (append-nil entries.gotos))
+with_gotos entries (e ∷ es) = with_gotos (with_edge entries (goto_edge e)) es ∙ ap (λ (gs : List (NonterminalString × StateIndex)). let all : Entries = record { shifts = entries.shifts; gotos = gs } in all) (append_assoc entries.gotos (e ∷ []) es)
 
-pub Shifts-more : (symbols : List Symbol) (old middle new : List (ℕ × ℕ)) (done : List (TerminalString × StateIndex)) (t : TerminalString) (x m : ℕ) → slice_get symbols x ≡ Some (Terminal t) → new ≡ middle ++ (x, m) ∷ [] → AddsShifts symbols old middle done → AddsShifts symbols old new (done ++ (t, record { 0 = m }) ∷ [])
-Shifts-more symbols old middle new done t x m at push before differ entries was =
-    let first : Entries = record { shifts = entries.shifts ++ done; gotos = entries.gotos } in
-    let second : Entries = record { shifts = entries.shifts ++ (done ++ (t, record { 0 = m }) ∷ []); gotos = entries.gotos } in
-    subst (λ (es : List (ℕ × ℕ)). AreListedBy symbols es second) (sym push) (ListedBy-more symbols differ x m (Terminal t) at middle first second (before differ entries was) (sym (append_assoc entries.shifts done ((t, record { 0 = m }) ∷ [])), refl))
+pub with_shifts : (entries : Entries) (shifts : List (TerminalString × StateIndex)) → with_edges entries (map shift_edge shifts) ≡ record { shifts = entries.shifts ++ shifts; gotos = entries.gotos }
+with_shifts entries [] = ap (λ (ss : List (TerminalString × StateIndex)). let all : Entries = record { shifts = ss; gotos = entries.gotos } in all) (sym (append-nil entries.shifts))
+with_shifts entries (e ∷ es) = with_shifts (with_edge entries (shift_edge e)) es ∙ ap (λ (ss : List (TerminalString × StateIndex)). let all : Entries = record { shifts = ss; gotos = entries.gotos } in all) (append_assoc entries.shifts (e ∷ []) es)
 
 -- some of the entries were added, and the rest is left
 pub record IsPartly {X : Type 0} (Adds : List X → Type 0) (rest all : List X) : Type 0 where

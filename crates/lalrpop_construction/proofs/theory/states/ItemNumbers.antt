@@ -15,33 +15,33 @@ use Rattle.lalrpop_construction.proofs.theory.states.NumberedItems.{AreNumbered}
 use Rattle.lalrpop_states.proofs.theory.grammars.AscendingItems.{items_differ}
 use Rattle.lalrpop_construction.proofs.theory.construction.Shifting.{of_dotted}
 use Rattle.lalrpop_numbers.specs.numbers.Numbers as numbers
-use Rattle.lalrpop_construction.specs.states.NumberedStates.{AreItemsAt, number_in}
+use Rattle.lalrpop_construction.specs.states.NumberedStates.{AreItemsAt, item_number}
 use Rattle.lalrpop_numbers.specs.declared.numbers.numbered.Numbered.{Numbered}
 
 -- items that are made from items by number have the numbers of these
-pub items_at_by : {L : Type 0} (known : List (Dotted Nil)) (list : List (Numbered L)) → numbers.AreNumbered known list → AreItemsAt known (map number_in list) (items_by known list)
+pub items_at_by : {L : Type 0} (known : List (Dotted Nil)) (list : List (Numbered L)) → numbers.AreNumbered known list → AreItemsAt known (map item_number list) (items_by known list)
 items_at_by {L} known list within = record {
-  counted = length-map list number_in ∙ sym (length-map list (item_by known));
+  counted = length-map list item_number ∙ sym (length-map list (item_by known));
   each = λ j k item at at_k.
       let (e, there, is) = some_of_map (item_by known) (slice_get list j) item (sym (slice_get-map (item_by known) list j) ∙ at) in
-      let number : e.number ≡ k = same_some e.number k (sym (slice_get-map number_in list j ∙ ap (option_map number_in) there) ∙ at_k) in
+      let number : e.number ≡ k = same_some e.number k (sym (slice_get-map item_number list j ∙ ap (option_map item_number) there) ∙ at_k) in
       let dotted : dotted_at known e.number ≡ with_dot item.production item.index = same_lr0 (dotted_at known e.number) (with_dot item.production item.index) (ap (λ (i : Dotted L). i.production) is) (ap (λ (i : Dotted L). i.index) is) in
       subst (λ (n : ℕ). slice_get known n ≡ Some (with_dot item.production item.index)) number (stands_at known e.number (within e (contains_at list e j there)) ∙ ap Some dotted);
 }
 
 module _ {L : Type 0} (known : List (Dotted Nil)) (list : List (Numbered L)) where
   -- the numbers are those of dotted productions
-  pub numbers_known : numbers.AreNumbered known list → (k : ℕ) → Contains (map number_in list) k → k < length known
-  numbers_known within k c = let (e, there, is) = contains_of_map number_in list k c in subst (λ (n : ℕ). n < length known) is (within e there)
+  pub numbers_known : numbers.AreNumbered known list → (k : ℕ) → Contains (map item_number list) k → k < length known
+  numbers_known within k c = let (e, there, is) = contains_of_map item_number list k c in subst (λ (n : ℕ). n < length known) is (within e there)
 
   dots_at : (n : ℕ) (e : Numbered L) → slice_get list n ≡ Some e → slice_get (map dotted_of (items_by known list)) n ≡ Some (dotted_of (dotted_at known e.number))
   dots_at n e at = slice_get-map dotted_of (items_by known list) n ∙ ap (option_map dotted_of) (slice_get-map (item_by known) list n ∙ ap (option_map (item_by known)) at)
 
   -- the numbers differ if the dotted productions do
-  pub numbers_differ : AllDiffer (map dotted_of (items_by known list)) → AllDiffer (map number_in list)
+  pub numbers_differ : AllDiffer (map dotted_of (items_by known list)) → AllDiffer (map item_number list)
   numbers_differ differ i j k l at_i at_j =
-      let (d, there, is) = some_of_map number_in (slice_get list i) k (sym (slice_get-map number_in list i) ∙ at_i) in
-      let (e, other, same) = some_of_map number_in (slice_get list j) k (sym (slice_get-map number_in list j) ∙ at_j) in
+      let (d, there, is) = some_of_map item_number (slice_get list i) k (sym (slice_get-map item_number list i) ∙ at_i) in
+      let (e, other, same) = some_of_map item_number (slice_get list j) k (sym (slice_get-map item_number list j) ∙ at_j) in
       differ i j (dotted_of (dotted_at known d.number)) l (dots_at i d there) (dots_at j e other ∙ ap (λ (n : ℕ). Some (dotted_of (dotted_at known n))) (same ∙ sym is))
 
 -- items that have the same numbers have the same dotted productions

@@ -42,7 +42,7 @@ module _ {L : Type 0} (g : Rules) (n : Numbers) (numbers : AreNumbers g n) where
   Finished-zip (k ∷ ks) (i ∷ items) at =
       let known = at.each 0 k i refl refl in
       let within = slice_get_within n.items.items k (with_dot i.production i.index) known in
-      let counted = numbers.counted in
+      let counted = n.counted in
       let behind = filled n.behind.items k (omega (arith, within, counted)) in
       let rest : AreItemsAt n.items.items ks items = record { counted = (let e = at.counted in omega arith); each = λ j m item. at.each (suc j) m item } in
       zip_step k i (finished_in n ks) (reductions_of items) behind.0 behind.1 (numbers.behind k (with_dot i.production i.index) behind.0 known behind.1) known (Finished-zip ks items rest)
@@ -73,7 +73,6 @@ module _ {L : Type 0} (g : Rules) (n : Numbers) (numbers : AreNumbers g n) where
               (λ c. dots.0 (listed.0 c), λ c. listed.1 (dots.1 c));
           named = edges.listed.named;
           edges = λ x m s at. (edge_leads edges x m s at, leads_edge edges x m s at);
-          ascend = edges.ascend;
         }
 
     -- a state by numbers also has the reductions if they are its finished items

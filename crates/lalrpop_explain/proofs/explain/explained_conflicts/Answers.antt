@@ -10,24 +10,24 @@ use Rattle.lalrpop_explain.proofs.explain.explained_conflicts.Goals as goal
 
 pub loop-conflict-init : goal.loop-conflict-init
 loop-conflict-init c =
-    let ground = c.args.explainer.now.ground in
-    subst (λ (xs : List ExplainedConflict). AreExplained ground.first_sets.now ground.states.now c.args.most [] xs) (sym c.new-list.ensures.items) no_conflict
+    let context = c.args.explainer.now.context in
+    subst (λ (xs : List ExplainedConflict). AreExplained context.first_sets.now context.states.now c.args.most [] xs) (sym c.new-list.ensures.items) no_conflict
 
 pub explain-requires-clause-conflict : goal.explain-requires-clause-conflict
 explain-requires-clause-conflict c = c.requires.conflicts c.conflict-item.result (c.loop-conflict.conflict-index, c.loop-conflict-test.true, sym c.conflict-item.is)
 
 pub loop-conflict-preserved : goal.loop-conflict-preserved
 loop-conflict-preserved c =
-    let ground = c.args.explainer.now.ground in
+    let context = c.args.explainer.now.context in
     let conflicts : List (Conflict Bits) = c.args.conflicts.now in
     let i = c.loop-conflict.conflict-index in
     let conflict : Conflict Bits = c.conflict-item.result in
     let more : take (i + 1) conflicts ≡ take i conflicts ++ conflict ∷ [] = take_more conflicts i conflict c.loop-conflict-test.true ∙ ap (λ (x : Conflict Bits). take i conflicts ++ x ∷ []) (sym c.conflict-item.is) in
-    subst (λ (cs : List (Conflict Bits)). AreExplained ground.first_sets.now ground.states.now c.args.most cs c.push.new.self.items) (sym more)
-    (subst (λ (xs : List ExplainedConflict). AreExplained ground.first_sets.now ground.states.now c.args.most (take i conflicts ++ conflict ∷ []) xs) (sym c.in_ok-push.ensures.items)
-    (conflict_more ground.first_sets.now ground.states.now c.args.most (take i conflicts) c.loop-conflict.list.items conflict c.in_ok-explain.field-0 c.loop-conflict.invariant c.in_ok-explain.ensures.explained))
+    subst (λ (cs : List (Conflict Bits)). AreExplained context.first_sets.now context.states.now c.args.most cs c.push.new.self.items) (sym more)
+    (subst (λ (xs : List ExplainedConflict). AreExplained context.first_sets.now context.states.now c.args.most (take i conflicts ++ conflict ∷ []) xs) (sym c.in_ok-push.ensures.items)
+    (conflict_more context.first_sets.now context.states.now c.args.most (take i conflicts) c.loop-conflict.list.items conflict c.in_ok-explain.field-0 c.loop-conflict.invariant c.in_ok-explain.ensures.explained))
 
 pub returns : goal.returns
 returns c =
-    let ground = c.args.explainer.now.ground in
-    subst (λ (cs : List (Conflict Bits)). AreExplained ground.first_sets.now ground.states.now c.args.most cs c.loop-conflict.list.items) (take_all c.loop-conflict.conflict-index c.args.conflicts.now c.loop-conflict-test.false) c.loop-conflict.invariant
+    let context = c.args.explainer.now.context in
+    subst (λ (cs : List (Conflict Bits)). AreExplained context.first_sets.now context.states.now c.args.most cs c.loop-conflict.list.items) (take_all c.loop-conflict.conflict-index c.args.conflicts.now c.loop-conflict-test.false) c.loop-conflict.invariant

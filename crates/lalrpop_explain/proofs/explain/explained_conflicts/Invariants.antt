@@ -4,4 +4,4 @@ use Rattle.lalrpop_explain.proofs.explain.explained_conflicts.Given as goal
 
 -- the conflicts so far are explained
 abbrev pub invariant-loop-conflict : goal.invariant-loop-conflict
-invariant-loop-conflict l = AreExplained l.explainer.ground.first_sets.now l.explainer.ground.states.now l.most (take l.conflict-index l.conflicts) l.list.items
+invariant-loop-conflict l = AreExplained l.explainer.context.first_sets.now l.explainer.context.states.now l.most (take l.conflict-index l.conflicts) l.list.items

@@ -12,8 +12,8 @@ use Rattle.lalrpop_follow_sets.proofs.Types.{Nil, NonterminalString, Production,
 use Rattle.lalrpop_states.proofs.theory.states.ContentsViews.{lead_as_items_say}
 use Rattle.lalrpop_construction.specs.Words.{places_in}
 use Rattle.lalrpop_follow_sets.specs.follow_sets.FollowNodes.{IsPass, nodes_of}
-use Rattle.lalrpop_follow_sets.specs.follow_sets.FollowWalks.{AreBegun, AreIncludes, AreLookbacks, AreTokensOfSymbols, entries_at, FindsLookaheads, IsInUnion}
-use Rattle.lalrpop_follow_sets.specs.declared.follow_sets.found.Found.{Found}
+use Rattle.lalrpop_follow_sets.specs.follow_sets.FollowWalks.{AreInitialSets, AreIncludes, AreLookbacks, AreTokensOfSymbols, entries_at, FindsLookaheads, IsInUnion}
+use Rattle.lalrpop_follow_sets.specs.declared.follow_sets.sets.FollowSets.{FollowSets}
 use Rattle.lalrpop_follow_sets.specs.declared.follow_sets.pass.Pass.{Pass}
 use Rattle.lalrpop_follow_sets.proofs.theory.follow_sets.FollowGraphs.{lookback_nodes, union_lookahead}
 use Rattle.lalrpop_follow_sets.proofs.theory.follow_sets.FollowPasses.{begun_nodes, follow_graph}
@@ -29,7 +29,7 @@ module _ (pass : Pass) (fits : IsPass pass) where
   abbrev nodes : List (ℕ × NonterminalString)
   nodes = nodes_of pass
 
-  module _ (sets : List Bits) (edges : List (Vec ℕ Global)) (begun : AreBegun pass sets) (includes : AreIncludes pass edges) where
+  module _ (sets : List Bits) (edges : List (Vec ℕ Global)) (begun : AreInitialSets pass sets) (includes : AreIncludes pass edges) where
     -- an edge leads to a set
     pub ends_within : (m n : ℕ) → Contains (edge_ends edges m) n → n < length sets
     ends_within m n there =
@@ -67,7 +67,7 @@ module _ (pass : Pass) (fits : IsPass pass) where
           (lookback_nodes places (length pass.states.now) say g pass.name.now nodes (begun_nodes pass fits) s p item) (entries_union s k p item number set union)
 
       -- the pass finds lookahead sets
-      pub finds_lookaheads : (found : Found) → found.follow.items ≡ follow → found.lookback.items ≡ lookback → AreTokensOfSymbols g.terminals pass.numbers.now.symbols.items found.tokens.items →
+      pub finds_lookaheads : (found : FollowSets) → found.follow.items ≡ follow → found.lookback.items ≡ lookback → AreTokensOfSymbols g.terminals pass.numbers.now.symbols.items found.tokens.items →
           FindsLookaheads g pass.name.now pass.numbers.now places (length pass.states.now) found
       finds_lookaheads found same_follow same_lookback tokens =
           record {

@@ -10,7 +10,7 @@ use Rattle.lalrpop_collections.proofs.theory.lists.Lists.{take_past, take_all, s
 use Rattle.lr1_theory.proofs.theory.closures.Closures.{state_from-last}
 use Rattle.lalrpop_follow_sets.proofs.theory.follow_sets.FollowSets.{take_none, symbol_behind, within}
 use Rattle.lalrpop_follow_sets.specs.Words.{LeadsOver, IncludesFollow, InFollow, at_once, included, HasLookaheadBits}
-use Rattle.lalrpop_follow_sets.specs.Words.{IsFollowNode, IsFollowGraph, IsUnionOver, HasLookbackNodes, HaveBegunNodes}
+use Rattle.lalrpop_follow_sets.specs.Words.{IsFollowNode, IsFollowGraph, IsUnionOver, HasLookbackNodes, HaveNodesAtStart}
 
 -- a number below the count has its node
 node_there : (nodes : List (ℕ × NonterminalString)) (n : ℕ) → n < length nodes → (s : ℕ) × (a : NonterminalString) × IsFollowNode nodes n s a
@@ -71,11 +71,11 @@ module _ (states : ℕ → Contents) (count : ℕ) (say : LeadAsItemsSay states 
       origin_item r q dot last.0 (omega (arith, within)) ((say.edges last.0 s x.0 last.2).origin q dot item) last.1
 
   -- a finished item has its nodes
-  pub lookback_nodes : (g : Rules) (start : NonterminalString) (nodes : List (ℕ × NonterminalString)) → HaveBegunNodes states nodes → (s : ℕ) (p : Production) → Contains (states s).items (p, length p.symbols) → HasLookbackNodes g start states nodes s p
+  pub lookback_nodes : (g : Rules) (start : NonterminalString) (nodes : List (ℕ × NonterminalString)) → HaveNodesAtStart states nodes → (s : ℕ) (p : Production) → Contains (states s).items (p, length p.symbols) → HasLookbackNodes g start states nodes s p
   lookback_nodes g start nodes begun s p item r leads_over = begun r p (origin_item r p (length p.symbols) s (omega arith) item (ap (state_from states r) (take_all p.symbols) ∙ leads_over))
 
   -- each follow set that a node includes has a node
-  pub included_node : (productions : List Production) (nodes : List (ℕ × NonterminalString)) → HaveBegunNodes states nodes → (s r : ℕ) (a b : NonterminalString) → IncludesFollow productions states s a r b → (m : ℕ) × IsFollowNode nodes m r b
+  pub included_node : (productions : List Production) (nodes : List (ℕ × NonterminalString)) → HaveNodesAtStart states nodes → (s r : ℕ) (a b : NonterminalString) → IncludesFollow productions states s a r b → (m : ℕ) × IsFollowNode nodes m r b
   included_node productions nodes begun s r a b i =
       let m = begun r i.parent (origin_item r i.parent i.dot s (within i.dot (i.parent).symbols i.behind) i.item i.leads) in
       (m.0, m.1 ∙ ap (λ (c : NonterminalString). Some (r, c)) i.own)

@@ -13,7 +13,7 @@ use Rattle.lalrpop_grammar.specs.declared.repr.Symbol.TheVariants.{Nonterminal}
 use Rattle.lalrpop_collections.proofs.theory.lists.Lists.{some_of_map}
 use Rattle.lalrpop_follow_sets.specs.follow_sets.FollowNodes.{IsNodeName, IsPass, IsTransitionNode, name_at, name_or, nodes_of}
 use Rattle.lalrpop_construction.specs.states.SamePlaces.{places_in}
-use Rattle.lalrpop_construction.specs.states.NumberedStates.{EdgesAscend, IsNumberedState, items_at, listed_items, listed_transitions, transitions_at}
+use Rattle.lalrpop_construction.specs.states.NumberedStates.{IsNumberedState, item_numbers_at, listed_items, listed_transitions, transitions_at}
 use Rattle.lalrpop_construction.specs.declared.construction.numbered_state.NumberedState.{NumberedState}
 use Rattle.lalrpop_follow_sets.specs.declared.follow_sets.pass.Pass.{Pass}
 use Rattle.lalrpop_collections.proofs.theory.lists.Members.{Contains-none, place}
@@ -159,19 +159,15 @@ module _ (pass : Pass) (is : IsPass pass) where
   transitions_read s l state edges read value = value ∙ ap (λ (n : NumberedState). n.edges.items) (sym read) ∙ sym (ap listed_transitions (read_there s l state read))
 
   -- the items that are read are those of the state with the number
-  pub items_read : (s : ℕ) → s < length pass.states.now → (state : NumberedState) (items : List ℕ) → state ≡ get_or pass.numbered.now s state → items ≡ (get_or pass.numbered.now s state).items.items → items ≡ items_at pass.numbered.now s
+  pub items_read : (s : ℕ) → s < length pass.states.now → (state : NumberedState) (items : List ℕ) → state ≡ get_or pass.numbered.now s state → items ≡ (get_or pass.numbered.now s state).items.items → items ≡ item_numbers_at pass.numbered.now s
   items_read s l state items read value = value ∙ ap (λ (n : NumberedState). n.items.items) (sym read) ∙ sym (ap listed_items (read_there s l state read))
-
-  -- the transitions that are read ascend
-  pub ascend_read : (s : ℕ) → s < length pass.states.now → (state : NumberedState) (edges : List (ℕ × ℕ)) → state ≡ get_or pass.numbered.now s state → edges ≡ (get_or pass.numbered.now s state).edges.items → EdgesAscend edges
-  ascend_read s l state edges read value = subst EdgesAscend (sym (value ∙ ap (λ (n : NumberedState). n.edges.items) (sym read))) (is.numbered.each s state (read_there s l state read)).ascend
 
   -- after the last state there is no transition
   no_transitions : (s : ℕ) → length pass.states.now ≤ s → transitions_at pass.numbered.now s ≡ []
   no_transitions s l = ap listed_transitions (slice_get_past pass.numbered.now s (let e = is.numbered.counted in omega arith))
 
   -- after the last state there is no item
-  no_items : (s : ℕ) → length pass.states.now ≤ s → items_at pass.numbered.now s ≡ []
+  no_items : (s : ℕ) → length pass.states.now ≤ s → item_numbers_at pass.numbered.now s ≡ []
   no_items s l = ap listed_items (slice_get_past pass.numbered.now s (let e = is.numbered.counted in omega arith))
 
   -- a number with a transition is that of a state
@@ -182,7 +178,7 @@ module _ (pass : Pass) (is : IsPass pass) where
   ]
 
   -- a number with an item is that of a state
-  pub state_of_item : (s k : ℕ) → Contains (items_at pass.numbered.now s) k → s < length pass.states.now
+  pub state_of_item : (s k : ℕ) → Contains (item_numbers_at pass.numbered.now s) k → s < length pass.states.now
   state_of_item s k c = elim (cases_lt s (length pass.states.now)) [
     | inl l ↦ l
     | inr l ↦ absurd (Contains-none k (subst (λ (ks : List ℕ). Contains ks k) (no_items s l) c))
@@ -212,13 +208,13 @@ module _ (pass : Pass) (is : IsPass pass) where
       past_contents s l = ap (contents_at (λ (lookahead : Bits) (t : Token). true)) (slice_get_past pass.states.now s l)
 
   -- the number of an item is that of a dotted production
-  pub item_known : (s k : ℕ) → Contains (items_at pass.numbered.now s) k → k < length pass.numbers.now.items.items
+  pub item_known : (s k : ℕ) → Contains (item_numbers_at pass.numbered.now s) k → k < length pass.numbers.now.items.items
   item_known s k c =
       let found = state_by_number s (state_of_item s k c) in
       found.2.known k (subst (λ (ks : List ℕ). Contains ks k) (ap listed_items found.1) c)
 
   -- an item by number is an item of the state
-  pub item_listed : (s k : ℕ) (i : Dotted Nil) → slice_get pass.numbers.now.items.items k ≡ Some i → s < length pass.states.now → Contains (items_at pass.numbered.now s) k ↔ Contains (places_in pass.states.now s).items (i.production, i.index)
+  pub item_listed : (s k : ℕ) (i : Dotted Nil) → slice_get pass.numbers.now.items.items k ≡ Some i → s < length pass.states.now → Contains (item_numbers_at pass.numbered.now s) k ↔ Contains (places_in pass.states.now s).items (i.production, i.index)
   item_listed s k i at l =
       let found = state_by_number s l in
       subst (λ (ks : List ℕ). Contains ks k ↔ Contains (places_in pass.states.now s).items (i.production, i.index)) (sym (ap listed_items found.1)) (found.2.items k i at)
@@ -237,17 +233,17 @@ module _ (pass : Pass) (is : IsPass pass) where
               let l = slice_get_within pass.numbers.now.expansions.items x v at in
               let same : x ≡ pass.start.now.number = start.0 in
               let past : pass.start.now.number ≡ length symbols = out.0 in
-              let count : length pass.numbers.now.expansions.items ≡ length symbols = is.numbers.expanded in
+              let count : length pass.numbers.now.expansions.items ≡ length symbols = pass.numbers.now.expanded in
               absurd (omega (arith, l, same, past, count))
         ]
       ]
 
   -- the expansions of the start symbol, if its number is that of no symbol
-  pub fronts_of_start : (x : ℕ) (a : NonterminalString) → IsNodeName pass x a → length pass.numbers.now.expansions.items ≤ x → AreExpansions pass.numbers.now.items.items (Nonterminal a) pass.start.now.fronts.items
+  pub fronts_of_start : (x : ℕ) (a : NonterminalString) → IsNodeName pass x a → length pass.numbers.now.expansions.items ≤ x → AreExpansions pass.numbers.now.items.items (Nonterminal a) pass.start.now.expansions.items
   fronts_of_start x a is_name past = elim is_name [
     | inl here ↦
         let l = slice_get_within symbols x (Nonterminal a) here in
-        let count : length pass.numbers.now.expansions.items ≡ length symbols = is.numbers.expanded in
+        let count : length pass.numbers.now.expansions.items ≡ length symbols = pass.numbers.now.expanded in
         absurd (omega (arith, l, past, count))
-    | inr start ↦ subst (λ (b : NonterminalString). AreExpansions pass.numbers.now.items.items (Nonterminal b) pass.start.now.fronts.items) (sym start.1) is.start.fronts
+    | inr start ↦ subst (λ (b : NonterminalString). AreExpansions pass.numbers.now.items.items (Nonterminal b) pass.start.now.expansions.items) (sym start.1) is.start.expansions
   ]

@@ -5,14 +5,14 @@ use Rattle.std.specs.declared.alloc.Global.{Global}
 use Rattle.std.specs.declared.vec.Vec.{Vec}
 use Rattle.std.proofs.lemmas.Option.{slice_get_within}
 use Rattle.lalrpop_base.specs.Words.{Bits, contents_at, Contents, items_of, IsReached, Rules, rules_of}
-use Rattle.lalrpop_follow_sets.specs.Words.{HaveBegunNodes, IncludesFollow, IsFollowGraph, IsFollowNode}
+use Rattle.lalrpop_follow_sets.specs.Words.{HaveNodesAtStart, IncludesFollow, IsFollowGraph, IsFollowNode}
 use Rattle.lalrpop_base.specs.Words.{with_dot, AreNumbers, IsBehindDot}
 use Rattle.lalrpop_follow_sets.proofs.Types.{NonterminalString, Production, State, Symbol, Token}
 use Rattle.lalrpop_grammar.specs.declared.repr.Symbol.TheVariants.{Nonterminal}
 use Rattle.lalrpop_states.proofs.theory.states.ContentsViews.{lead_as_items_say}
 use Rattle.lalrpop_construction.specs.Words.{places_in}
 use Rattle.lalrpop_follow_sets.specs.follow_sets.FollowNodes.{IsPass, nodes_of}
-use Rattle.lalrpop_follow_sets.specs.follow_sets.FollowWalks.{AreBegun, AreIncludes, GoesThrough}
+use Rattle.lalrpop_follow_sets.specs.follow_sets.FollowWalks.{AreInitialSets, AreIncludes, GoesThrough}
 use Rattle.lalrpop_construction.specs.states.NumberedStates.{transitions_at}
 use Rattle.lalrpop_numbers.specs.declared.numbers.Numbers.{Numbers}
 use Rattle.lalrpop_follow_sets.specs.declared.follow_sets.pass.Pass.{Pass}
@@ -71,7 +71,7 @@ module _ (pass : Pass) (fits : IsPass pass) where
       (edge.0, n.0, edge.1, n.1)
 
   -- each item with the dot at the start has a node for its nonterminal
-  pub begun_nodes : HaveBegunNodes places nodes
+  pub begun_nodes : HaveNodesAtStart places nodes
   begun_nodes r q item = elim (front_begun g.productions pass.name.now places fits.closed (item_reached r q 0 item) q item) [
     | inl first ↦
         let n = start_node pass fits in
@@ -118,7 +118,7 @@ module _ (pass : Pass) (fits : IsPass pass) where
       record { dot = i.dot; state = s; name = a; after = i.after; target = edge.0; behind = i.behind; nullable = i.nullable; leads = i.leads; edge = edge.1; node = node }
 
   -- the sets and the edges are the follow graph
-  pub follow_graph : (sets : List Bits) (edges : List (Vec ℕ Global)) → AreBegun pass sets → AreIncludes pass edges → IsFollowGraph g pass.name.now places nodes sets edges
+  pub follow_graph : (sets : List Bits) (edges : List (Vec ℕ Global)) → AreInitialSets pass sets → AreIncludes pass edges → IsFollowGraph g pass.name.now places nodes sets edges
   follow_graph sets edges begun includes = record {
     counted = includes.counted;
     in_range = λ m n there. let t = ((includes.ends m n).0 there).4 in slice_get_within nodes n (t.state, t.name) t.node;

@@ -2,7 +2,7 @@
 use Rattle.std.proofs.Common.{◌≡◌, ◌∙◌, ◌↔◌, inl, inr, ℕ, ◌+◌, ◌<◌, List, [], ◌∷◌, ◌++◌, length, get_or, refl, sym, ap, subst, arith, false}
 use Rattle.std.specs.Prelude.{slice_get, Option, Some, None, Contains, IsTrue}
 use Rattle.std.proofs.lemmas.Option.{get_or_from_slice_get}
-use Rattle.lalrpop_base.specs.Words.{Dotted, leads, rules_of, IsNullable, HasRest, IsRestOf, AddsThose, IsNumberBehind}
+use Rattle.lalrpop_base.specs.Words.{Dotted, leads, rules_of, IsNullable, HasSuffix, IsSuffixOf, AddsThose, IsNumberBehind}
 use Rattle.lalrpop_follow_sets.specs.Words.{IsFollowNode}
 use Rattle.lalrpop_follow_sets.proofs.Types.{Nil, NonterminalString, Symbol}
 use Rattle.lalrpop_grammar.specs.declared.repr.Symbol.TheVariants.{Nonterminal}
@@ -12,7 +12,7 @@ use Rattle.lalrpop_construction.specs.states.SamePlaces.{places_in}
 use Rattle.lalrpop_construction.specs.states.NumberedStates.{IsNumberedState, listed_transitions, transitions_at}
 use Rattle.lalrpop_construction.specs.declared.construction.numbered_state.NumberedState.{NumberedState}
 use Rattle.lalrpop_follow_sets.specs.declared.follow_sets.pass.Pass.{Pass}
-use Rattle.lalrpop_numbers.specs.declared.numbers.rests.Rest.{Rest}
+use Rattle.lalrpop_numbers.specs.declared.numbers.suffixes.Suffix.{Suffix}
 use Rattle.lalrpop_grammar.proofs.theory.grammars.SymbolLists.{same_nonterminal}
 use Rattle.lalrpop_states.proofs.theory.closures.Closing.{split_drop}
 use Rattle.lalrpop_numbers.proofs.theory.numbers.DottedProductions.{those_none}
@@ -42,14 +42,14 @@ no_some (Some x) h = absurd (h x refl)
 
 -- ---- whether a rest is nullable
 -- if a nonterminal is after the dot, the flag of its rest says whether this is nullable
-pub rest_tells : (pass : Pass) (i : Dotted Nil) (rest : Rest) → IsRestOf (rules_of pass.grammar.now) i (Some rest) → IsTrue rest.nullable ↔ HasNullableRest pass i
+pub rest_tells : (pass : Pass) (i : Dotted Nil) (rest : Suffix) → IsSuffixOf (rules_of pass.grammar.now) i (Some rest) → IsTrue rest.nullable ↔ HasNullableRest pass i
 rest_tells pass i rest (a, after, has, is) = (
   λ t. (a, after, has, (is.nullable).0 t),
   λ h. (is.nullable).1 (subst (IsNullable (rules_of pass.grammar.now).productions) (same_after h.0 a h.1 after (sym h.2 ∙ has)) h.3),
 )
 
 -- if no nonterminal is after the dot, no rest is nullable
-pub no_rest_tells : (pass : Pass) (i : Dotted Nil) → IsRestOf (rules_of pass.grammar.now) i None → IsTrue false ↔ HasNullableRest pass i
+pub no_rest_tells : (pass : Pass) (i : Dotted Nil) → IsSuffixOf (rules_of pass.grammar.now) i None → IsTrue false ↔ HasNullableRest pass i
 no_rest_tells pass i none = (λ t. cc, λ h. absurd (none h.0 h.1 h.2))
 
 -- ---- a step
@@ -71,7 +71,7 @@ module _ (pass : Pass) (ok : IsPass pass) (state k x : ℕ) (i : Dotted Nil) (at
   is_behind t at_t = same_some s t (sym symbol.2 ∙ at_t)
 
   -- a nonterminal with a rest after the dot is this symbol
-  name_behind : (a : NonterminalString) (after : List Symbol) → HasRest i a after → s ≡ Nonterminal a
+  name_behind : (a : NonterminalString) (after : List Symbol) → HasSuffix i a after → s ≡ Nonterminal a
   name_behind a after h = is_behind (Nonterminal a) (split_drop i.index i.production.symbols (Nonterminal a) after h)
 
   module _ (listed : state < length pass.states.now) (here : NumberedState) (read : here ≡ get_or pass.numbered.now state here) where

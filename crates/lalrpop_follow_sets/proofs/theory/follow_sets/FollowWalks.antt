@@ -11,7 +11,7 @@ use Rattle.lalrpop_states.proofs.theory.states.ContentsViews.{lead_as_items_say}
 use Rattle.lalrpop_collections.proofs.theory.lists.Lists.{take_all, take_past}
 use Rattle.lalrpop_grammar.proofs.theory.runs.Steps.{state_from-more}
 use Rattle.lalrpop_follow_sets.specs.follow_sets.FollowNodes.{IsPass}
-use Rattle.lalrpop_follow_sets.specs.follow_sets.FollowWalks.{GoesThrough, IsEndOfWalk, IsFrontOf, IsGoneOver, StepsThrough}
+use Rattle.lalrpop_follow_sets.specs.follow_sets.FollowWalks.{GoesThrough, IsEndOfWalk, IsNumberAtStart, IsGoneOver, StepsThrough}
 use Rattle.lalrpop_construction.specs.states.SamePlaces.{places_in}
 use Rattle.lalrpop_follow_sets.specs.declared.follow_sets.pass.Pass.{Pass}
 use Rattle.lalrpop_states.proofs.theory.closures.Closing.{drop_split, split_drop}
@@ -38,7 +38,7 @@ same_production : (q r : Production) (dot : ℕ) → Some (with_dot q dot) ≡ S
 same_production q r dot e = ap (λ (i : Dotted Nil). i.production) (same_some (with_dot q dot) (with_dot r dot) e)
 
 -- a number is that of one production with the dot at the start
-pub one_front : (pass : Pass) (k : ℕ) (q r : Production) → IsFrontOf pass k q → IsFrontOf pass k r → q ≡ r
+pub one_front : (pass : Pass) (k : ℕ) (q r : Production) → IsNumberAtStart pass k q → IsNumberAtStart pass k r → q ≡ r
 one_front pass k q r a b = same_production q r 0 (sym a ∙ b)
 
 -- a walk goes through the node before the dot
@@ -46,18 +46,18 @@ abbrev pub GoesBefore : Pass → ℕ → Production → ℕ → ℕ → Type 0
 GoesBefore pass from q dot n = (g : GoesThrough pass from q n) × (g.dot < dot)
 
 -- a walk from a state has come to a dot: its place, and the nodes that it has passed
-pub record IsWalking (pass : Pass) (from front : ℕ) (old : List ℕ) (state item : ℕ) (ends : List ℕ) : Type 0 where
+pub record IsWalking (pass : Pass) (from expansion : ℕ) (old : List ℕ) (state item : ℕ) (ends : List ℕ) : Type 0 where
   pub production : Production
   pub dot : ℕ
-  pub begun : IsFrontOf pass front production
+  pub begun : IsNumberAtStart pass expansion production
   pub numbered : slice_get pass.numbers.now.items.items item ≡ Some (with_dot production dot)
   pub over : LeadsOver (places_in pass.states.now) from (take dot production.symbols) state
   pub listed : state < length pass.states.now
   pub passed : AddsThose (GoesBefore pass from production dot) old ends
 
 -- the walk begins with the dot at the start
-pub walk_begins : (pass : Pass) (from front : ℕ) (q : Production) (old : List ℕ) → IsFrontOf pass front q → from < length pass.states.now → IsWalking pass from front old from front old
-walk_begins pass from front q old begun listed = record {
+pub walk_begins : (pass : Pass) (from expansion : ℕ) (q : Production) (old : List ℕ) → IsNumberAtStart pass expansion q → from < length pass.states.now → IsWalking pass from expansion old from expansion old
+walk_begins pass from expansion q old begun listed = record {
   production = q;
   dot = 0;
   begun = begun;
@@ -67,7 +67,7 @@ walk_begins pass from front q old begun listed = record {
   passed = those_none (GoesBefore pass from q 0) old (λ n g. absurd (let l = g.1 in omega arith));
 }
 
-module _ (pass : Pass) (ok : IsPass pass) (from front : ℕ) (old : List ℕ) (state item : ℕ) (ends : List ℕ) (w : IsWalking pass from front old state item ends) where
+module _ (pass : Pass) (ok : IsPass pass) (from expansion : ℕ) (old : List ℕ) (state item : ℕ) (ends : List ℕ) (w : IsWalking pass from expansion old state item ends) where
   -- the production over which the walk goes
   abbrev q : Production
   q = w.production
@@ -80,14 +80,14 @@ module _ (pass : Pass) (ok : IsPass pass) (from front : ℕ) (old : List ℕ) (s
   is_behind : (read : Option ℕ) → read ≡ get_or pass.numbers.now.behind.items item read → IsNumberBehind pass.numbers.now.symbols.items (with_dot q w.dot) read
   is_behind read is =
       let l = slice_get_within pass.numbers.now.items.items item (with_dot q w.dot) w.numbered in
-      let e = ok.numbers.counted in
+      let e = pass.numbers.now.counted in
       ok.numbers.behind item (with_dot q w.dot) read w.numbered (slice_get_at pass.numbers.now.behind.items item read (omega arith) is)
 
   -- a number that is read is in the list, at the item's number
   pub number_behind : (read : Option ℕ) → read ≡ get_or pass.numbers.now.behind.items item read → (x : ℕ) → read ≡ Some x → slice_get pass.numbers.now.behind.items item ≡ Some (Some x)
   number_behind read is x some =
       let l = slice_get_within pass.numbers.now.items.items item (with_dot q w.dot) w.numbered in
-      let e = ok.numbers.counted in
+      let e = pass.numbers.now.counted in
       slice_get_at pass.numbers.now.behind.items item read (omega arith) is ∙ ap Some some
 
   -- the symbol with this number is after the dot
@@ -132,7 +132,7 @@ module _ (pass : Pass) (ok : IsPass pass) (from front : ℕ) (old : List ℕ) (s
 
   module _ (x : Symbol) (behind : slice_get q.symbols w.dot ≡ Some x) (after : List ℕ) (stepped : AddsThose (StepsThrough pass state (with_dot q w.dot)) ends after) where
     -- the walk goes over one symbol more
-    pub walk_more : (target : ℕ) → IsGoneOver pass state (with_dot q w.dot) (Some target) → IsWalking pass from front old target (item + 1) after
+    pub walk_more : (target : ℕ) → IsGoneOver pass state (with_dot q w.dot) (Some target) → IsWalking pass from expansion old target (item + 1) after
     walk_more target gone = record {
       production = q;
       dot = w.dot + 1;

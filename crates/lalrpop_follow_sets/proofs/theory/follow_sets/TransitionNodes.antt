@@ -8,7 +8,7 @@ use Rattle.lalrpop_base.specs.Words.{AllDiffer, SymbolsAscend}
 use Rattle.lalrpop_follow_sets.proofs.Types.{NonterminalString, Symbol}
 use Rattle.lalrpop_grammar.specs.declared.repr.Symbol.TheVariants.{Nonterminal}
 use Rattle.lalrpop_follow_sets.specs.follow_sets.FollowNodes.{IsTransitionNode, nonterminals_of}
-use Rattle.lalrpop_construction.specs.states.NumberedStates.{EdgesAscend, listed_transitions, transitions_at}
+use Rattle.lalrpop_construction.specs.states.NumberedStates.{listed_transitions, transitions_at}
 use Rattle.lalrpop_construction.specs.declared.construction.numbered_state.NumberedState.{NumberedState}
 use Rattle.lalrpop_follow_sets.proofs.theory.states.NonterminalEdges.{Listed-at, pair_at, pairs_differ}
 use Rattle.lalrpop_collections.proofs.theory.lists.Places.{push_cases, slice_get-longer, slice_get-push_at, slice_get-append_behind}
@@ -54,7 +54,7 @@ Have-none symbols = record {
   differ = λ i j x l at. cc;
 }
 
-module _ (symbols : List Symbol) (ascend : SymbolsAscend symbols) (done : List NumberedState) (state : NumberedState) (up : EdgesAscend state.edges.items) (firsts : List ℕ) (pairs : List (ℕ × ℕ)) (before : HaveNodes symbols done firsts pairs) where
+module _ (symbols : List Symbol) (ascend : SymbolsAscend symbols) (done : List NumberedState) (state : NumberedState) (firsts : List ℕ) (pairs : List (ℕ × ℕ)) (before : HaveNodes symbols done firsts pairs) where
   abbrev number : ℕ
   number = length done
 
@@ -84,7 +84,7 @@ module _ (symbols : List Symbol) (ascend : SymbolsAscend symbols) (done : List N
             ap (λ (n : ℕ). slice_get (pairs ++ added) (n + place)) (first_kept s (slice_get_within done s e.state was)) ∙ slice_get-longer pairs added (get_or firsts s 0 + place) (s, x) old
         | inr last ↦
             let at : slice_get state.edges.items place ≡ Some (x, target) = ap (λ (t : NumberedState). slice_get t.edges.items place) last.1 ∙ e.edge in
-            ap (λ (n : ℕ). slice_get (pairs ++ added) (get_or more n 0 + place)) last.0 ∙ ap (λ (n : ℕ). slice_get (pairs ++ added) (n + place)) first_new ∙ slice_get-append_behind pairs added place ∙ pair_at symbols number ascend state.edges.items up place x target a at symbol ∙ ap (λ (n : ℕ). Some (n, x)) (sym last.0)
+            ap (λ (n : ℕ). slice_get (pairs ++ added) (get_or more n 0 + place)) last.0 ∙ ap (λ (n : ℕ). slice_get (pairs ++ added) (n + place)) first_new ∙ slice_get-append_behind pairs added place ∙ pair_at symbols number ascend state.edges.items state.ascend place x target a at symbol ∙ ap (λ (n : ℕ). Some (n, x)) (sym last.0)
       ]
 
   -- each node is that of a transition
@@ -139,7 +139,7 @@ module _ (symbols : List Symbol) (ascend : SymbolsAscend symbols) (done : List N
       | inr second ↦
           let e = first.1 in
           let f = second.1 in
-          pairs_differ symbols number state.edges.items up first.0 second.0 p (omega arith) first.2 second.2
+          pairs_differ symbols number state.edges.items state.ascend first.0 second.0 p (omega arith) first.2 second.2
     ]
   ]
 

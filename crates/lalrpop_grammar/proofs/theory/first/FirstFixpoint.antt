@@ -16,33 +16,33 @@ use Rattle.lalrpop_grammar.specs.declared.first.numbered.NumberedSymbol.TheVaria
 use Rattle.lalrpop_grammar.specs.declared.first.numbered.NumberedProduction.{NumberedProduction}
 use Rattle.lalrpop_collections.specs.Words.{Bits, has, no_bits, has-no_bits}
 use Rattle.lalrpop_grammar.specs.Words.{IsFirst, IsNullable, NullableBy, FirstBy, AreFirstSets, name_cmp, productions}
-use Rattle.lalrpop_grammar.specs.Words.{HasKnownTerminals, IsWellFormed, AreFirstSetsOf, Table, is_in, IsRight, IsClosed, AreUses, IsTurn, place}
+use Rattle.lalrpop_grammar.specs.Words.{HasKnownTerminals, IsWellFormed, AreFirstSetsOf, Table, is_in, IsRight, IsFixpoint, AreUses, IsTurn, place}
 use Rattle.lalrpop_collections.specs.Words.{Waiting, waits}
 use Rattle.lalrpop_grammar.specs.Words.{IsNumberedSymbol, IsNumberedProduction, AreReady, GivesByNumber, HasBitsBelow, set_at}
-use Rattle.lalrpop_grammar.specs.first.FirstTables.{Gives}
+use Rattle.lalrpop_grammar.specs.first.FirstTables.{IsFirstBit}
 use Rattle.lalrpop_grammar.proofs.theory.grammars.Derivations.{Derives-trans, Derives-production}
 use Rattle.lalrpop_grammar.proofs.theory.first.FirstSets.{nullable_by, first_by}
-use Rattle.lalrpop_grammar.proofs.theory.first.FirstMeaning.{at_end, Gives-first, Gives-nullable, Gives-fits}
+use Rattle.lalrpop_grammar.proofs.theory.first.FirstMeaning.{at_end, IsFirstBit-first, IsFirstBit-nullable, IsFirstBit-fits}
 use Rattle.lalrpop_grammar.proofs.theory.first.FirstNames.{name_self}
-use Rattle.lalrpop_grammar.proofs.theory.first.FirstNumbers.{set_of-zip, place_same, by_number, by_name}
+use Rattle.lalrpop_grammar.proofs.theory.first.FirstNumbers.{first_set_of-zip, place_same, by_number, by_name}
 use Rattle.lalrpop_grammar.proofs.theory.first.FirstTurns.{weight, Added-long, Added-without, Added-same, Added-kept, Added-there, Added-only, Added-more, Weight-small}
 use Rattle.lalrpop_collections.proofs.theory.states.KernelLemmas.{contains_at}
 use Rattle.lalrpop_collections.proofs.theory.lists.Lists.{same_some}
 
 -- ---- a table to which no production adds anything
-module _ (terminals : List TerminalString) (g : List Production) (table : Table) (known : (p : Production) → Contains g p → HasKnownTerminals terminals p.symbols) (right : IsRight terminals g table) (closed : IsClosed terminals g table) where
+module _ (terminals : List TerminalString) (g : List Production) (table : Table) (known : (p : Production) → Contains g p → HasKnownTerminals terminals p.symbols) (right : IsRight terminals g table) (closed : IsFixpoint terminals g table) where
   abbrev null : NonterminalString → Type 0
   null a = is_in table a (length terminals) ≡ true
 
   abbrev first : NonterminalString → TerminalString → Type 0
   first a t = Contains terminals t × ((bit : ℕ) → slice_get terminals bit ≡ Some t → is_in table a bit ≡ true)
 
-  null_given : (l : List Symbol) → NullableBy null l → Gives terminals table l (length terminals)
+  null_given : (l : List Symbol) → NullableBy null l → IsFirstBit terminals table l (length terminals)
   null_given [] h = refl
   null_given (Terminal t ∷ l) h = absurd h
   null_given (Nonterminal a ∷ l) h = inr (h.0, null_given l h.1)
 
-  first_given : (bit : ℕ) (t : TerminalString) → slice_get terminals bit ≡ Some t → (l : List Symbol) → FirstBy null first l t → Gives terminals table l bit
+  first_given : (bit : ℕ) (t : TerminalString) → slice_get terminals bit ≡ Some t → (l : List Symbol) → FirstBy null first l t → IsFirstBit terminals table l bit
   first_given bit t at [] h = absurd h
   first_given bit t at (Terminal x ∷ l) h = at ∙ ap Some h
   first_given bit t at (Nonterminal a ∷ l) (inl h) = inl (h.1 bit at, at_end terminals bit t at)
@@ -137,8 +137,8 @@ Bits-below terminals names l ns z b h =
 
 -- ---- sets that grow while some productions wait
 -- a production is settled if the set of its name has all that the sets give for the production
-abbrev pub IsSettled : ℕ → List Bits → NumberedProduction → Type 0
-IsSettled end sets p = (bit : ℕ) → GivesByNumber end sets p.symbols bit → has (set_at sets p.name) bit ≡ true
+abbrev pub IsProductionClosed : ℕ → List Bits → NumberedProduction → Type 0
+IsProductionClosed end sets p = (bit : ℕ) → GivesByNumber end sets p.symbols bit → has (set_at sets p.name) bit ≡ true
 
 -- the sets have only right bits, and productions that do not wait are settled
 pub record Growing (terminals : List TerminalString) (g : List Production) (names : List NonterminalString) (numbered : List NumberedProduction) (waiting : Waiting) (sets : List Bits) : Type 0 where
@@ -147,7 +147,7 @@ pub record Growing (terminals : List TerminalString) (g : List Production) (name
   pub few : length waiting.numbers ≤ waiting.limit
   pub right : IsRight terminals g (zip names sets)
   pub fits : (n bit : ℕ) → has (set_at sets n) bit ≡ true → bit ≤ length terminals
-  pub settled : (k : ℕ) (p : NumberedProduction) → slice_get numbered k ≡ Some p → waits waiting.numbers k ≡ false → IsSettled (length terminals) sets p
+  pub settled : (k : ℕ) (p : NumberedProduction) → slice_get numbered k ≡ Some p → waits waiting.numbers k ≡ false → IsProductionClosed (length terminals) sets p
 
 -- a measure that falls with each turn: the number of bits that can still be added, times one more
 -- than the number of productions, plus the number of productions that wait
@@ -173,19 +173,19 @@ module _ (terminals : List TerminalString) (g : List Production) (names : List N
       no_bit n bit h = false≢true (sym (ap (λ s. has s bit) (none n) ∙ has-no_bits bit) ∙ h)
 
       in_none : (a : NonterminalString) (bit : ℕ) → is_in (zip names sets) a bit ≡ true → ⊥
-      in_none a bit h = no_bit (place names a) bit (sym (ap (λ s. has s bit) (set_of-zip names sets a count)) ∙ h)
+      in_none a bit h = no_bit (place names a) bit (sym (ap (λ s. has s bit) (first_set_of-zip names sets a count)) ∙ h)
 
   module _ (numbers : AllZip (IsNumberedProduction terminals names) g numbered) where
     -- at the end no production waits
     pub Growing-end : (known : (p : Production) → Contains g p → HasKnownTerminals terminals p.symbols) (waiting : Waiting) (sets : List Bits) → waiting.numbers ≡ [] → Growing terminals g names numbered waiting sets → AreFirstSetsOf (record { productions = g; terminals = terminals }) (zip names sets)
     Growing-end known waiting sets none h = Closed-first terminals g (zip names sets) known h.right closed
       where
-        closed : IsClosed terminals g (zip names sets)
+        closed : IsFixpoint terminals g (zip names sets)
         closed p bit in_g given =
             let at : slice_get g in_g.0 ≡ Some p = slice_get_read g (length g) in_g.0 p refl in_g.1 (sym in_g.2) in
             let r = at_left (IsNumberedProduction terminals names) g numbered in_g.0 p numbers at in
             let settled = h.settled in_g.0 r.0 r.1 (ap (λ l. waits l in_g.0) none) bit (by_number terminals names sets h.count p.symbols (r.0).symbols bit (r.2).symbols given) in
-            ap (λ s. has s bit) (set_of-zip names sets p.nonterminal h.count) ∙ ap (λ n. has (set_at sets n) bit) (sym (r.2).named) ∙ settled
+            ap (λ s. has s bit) (first_set_of-zip names sets p.nonterminal h.count) ∙ ap (λ n. has (set_at sets n) bit) (sym (r.2).named) ∙ settled
 
     -- the bits of a numbered production are those of terminals
     pub Growing-bits : (k : ℕ) (p : NumberedProduction) → slice_get numbered k ≡ Some p → HasBitsBelow (length terminals) p.symbols
@@ -225,7 +225,7 @@ module _ (terminals : List TerminalString) (g : List Production) (names : List N
         | inr e ↦ subst (λ (sets : List Bits). GivesByNumber (length terminals) sets q.symbols bit) (Added-same (length terminals) p t.grew old new t.added e) given
       ]
 
-      settled : (j : ℕ) (q : NumberedProduction) → slice_get numbered j ≡ Some q → waits after.numbers j ≡ false → IsSettled (length terminals) new q
+      settled : (j : ℕ) (q : NumberedProduction) → slice_get numbered j ≡ Some q → waits after.numbers j ≡ false → IsProductionClosed (length terminals) new q
       settled j q place w bit given = elim (cases_eq j k) [
         | inl same ↦
             let is : p ≡ q = same_some (sym at ∙ ap (slice_get numbered) (sym same) ∙ place) in
@@ -241,12 +241,12 @@ module _ (terminals : List TerminalString) (g : List Production) (names : List N
       in_grammar : Contains g source.0
       in_grammar = contains_at g source.0 k source.1
 
-      given_by_name : (bit : ℕ) → GivesByNumber (length terminals) old p.symbols bit → Gives terminals (zip names old) (source.0).symbols bit
+      given_by_name : (bit : ℕ) → GivesByNumber (length terminals) old p.symbols bit → IsFirstBit terminals (zip names old) (source.0).symbols bit
       given_by_name bit given = by_name terminals names old h.count (source.0).symbols p.symbols bit (source.2).symbols given
 
-      came : (a : NonterminalString) (bit : ℕ) → is_in (zip names new) a bit ≡ true → (is_in (zip names old) a bit ≡ true) ⊎ (((source.0).nonterminal ≡ a) × Gives terminals (zip names old) (source.0).symbols bit)
-      came a bit i = elim (Added-only (length terminals) p t.grew old new t.added within (place names a) bit (sym (ap (λ s. has s bit) (set_of-zip names new a count)) ∙ i)) [
-        | inl o ↦ inl (ap (λ s. has s bit) (set_of-zip names old a h.count) ∙ o)
+      came : (a : NonterminalString) (bit : ℕ) → is_in (zip names new) a bit ≡ true → (is_in (zip names old) a bit ≡ true) ⊎ (((source.0).nonterminal ≡ a) × IsFirstBit terminals (zip names old) (source.0).symbols bit)
+      came a bit i = elim (Added-only (length terminals) p t.grew old new t.added within (place names a) bit (sym (ap (λ s. has s bit) (first_set_of-zip names new a count)) ∙ i)) [
+        | inl o ↦ inl (ap (λ s. has s bit) (first_set_of-zip names old a h.count) ∙ o)
         | inr o ↦
             let own : place names (source.0).nonterminal < length names = subst (λ n. n < length names) (source.2).named named in
             inr (place_same names (source.0).nonterminal a own (o.0 ∙ (source.2).named), given_by_name bit o.1)
@@ -257,23 +257,23 @@ module _ (terminals : List TerminalString) (g : List Production) (names : List N
         begins = λ a bit u place i. elim (came a bit i) [
           | inl o ↦ h.right.begins a bit u place o
           | inr o ↦
-              let f = Gives-first terminals g (zip names old) h.right (source.0).symbols bit u place o.1 in
+              let f = IsFirstBit-first terminals g (zip names old) h.right (source.0).symbols bit u place o.1 in
               subst (λ b. IsFirst g (Nonterminal b ∷ []) u) o.0 (f.0, Derives-trans (Derives-production source.0 in_grammar) f.1)
         ];
         nullable = λ a i. elim (came a (length terminals) i) [
           | inl o ↦ h.right.nullable a o
-          | inr o ↦ subst (λ b. IsNullable g (Nonterminal b ∷ [])) o.0 (Derives-trans (Derives-production source.0 in_grammar) (Gives-nullable terminals g (zip names old) h.right (source.0).symbols o.1))
+          | inr o ↦ subst (λ b. IsNullable g (Nonterminal b ∷ [])) o.0 (Derives-trans (Derives-production source.0 in_grammar) (IsFirstBit-nullable terminals g (zip names old) h.right (source.0).symbols o.1))
         ];
         fits = λ a bit i. elim (came a bit i) [
           | inl o ↦ h.right.fits a bit o
-          | inr o ↦ Gives-fits terminals g (zip names old) h.right (source.0).symbols bit o.1
+          | inr o ↦ IsFirstBit-fits terminals g (zip names old) h.right (source.0).symbols bit o.1
         ];
       }
 
       fits : (n bit : ℕ) → has (set_at new n) bit ≡ true → bit ≤ length terminals
       fits n bit i = elim (Added-only (length terminals) p t.grew old new t.added within n bit i) [
         | inl o ↦ h.fits n bit o
-        | inr o ↦ Gives-fits terminals g (zip names old) h.right (source.0).symbols bit (given_by_name bit o.1)
+        | inr o ↦ IsFirstBit-fits terminals g (zip names old) h.right (source.0).symbols bit (given_by_name bit o.1)
       ]
 
       shorter : length before.numbers ≡ suc (length rest.numbers)

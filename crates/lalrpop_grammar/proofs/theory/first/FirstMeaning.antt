@@ -8,7 +8,7 @@ use Rattle.lalrpop_grammar.proofs.Types.{Production, Symbol, TerminalString}
 use Rattle.lalrpop_grammar.specs.declared.repr.Symbol.TheVariants.{Nonterminal, Terminal}
 use Rattle.lalrpop_collections.specs.Words.{Bits, has, join, has-join}
 use Rattle.lalrpop_grammar.specs.Words.{as_it_is, IsFirst, IsNullable, Rules, FitsTokens, IsFirstSet, IsFirstSetBefore, AreFirstSetsOf, Table, IsRight}
-use Rattle.lalrpop_grammar.specs.first.FirstTables.{Gives}
+use Rattle.lalrpop_grammar.specs.first.FirstTables.{IsFirstBit}
 use Rattle.lalrpop_grammar.proofs.theory.grammars.Forests.{nullable-cons, first-cons, first-nil, forest-terminal, derives_forest}
 use Rattle.lalrpop_collections.proofs.theory.lists.Lists.{same_some}
 
@@ -28,33 +28,33 @@ terminal_at (t ∷ ts) (suc bit) l = terminal_at ts bit (omega arith)
 abbrev Meant : List TerminalString → List Production → List Symbol → ℕ → Type 0
 Meant terminals g l bit = ((bit ≡ length terminals) × IsNullable g l) ⊎ ((t : TerminalString) × (slice_get terminals bit ≡ Some t) × IsFirst g l t)
 
-pub Gives-right : (terminals : List TerminalString) (g : List Production) (table : Table) → IsRight terminals g table → (l : List Symbol) (bit : ℕ) → Gives terminals table l bit → Meant terminals g l bit
-Gives-right terminals g table right [] bit e = inl (e, as_it_is)
-Gives-right terminals g table right (Terminal t ∷ l) bit at = inr (t, at, (l, as_it_is))
-Gives-right terminals g table right (Nonterminal a ∷ l) bit (inl h) =
+pub IsFirstBit-right : (terminals : List TerminalString) (g : List Production) (table : Table) → IsRight terminals g table → (l : List Symbol) (bit : ℕ) → IsFirstBit terminals table l bit → Meant terminals g l bit
+IsFirstBit-right terminals g table right [] bit e = inl (e, as_it_is)
+IsFirstBit-right terminals g table right (Terminal t ∷ l) bit at = inr (t, at, (l, as_it_is))
+IsFirstBit-right terminals g table right (Nonterminal a ∷ l) bit (inl h) =
     let below : bit ≤ length terminals = right.fits a bit h.0 in
     let apart = h.1 in
     let found = terminal_at terminals bit (omega arith) in
     inr (found.0, found.1, (first-cons (Nonterminal a) l found.0).1 (inl (right.begins a bit found.0 found.1 h.0)))
-Gives-right terminals g table right (Nonterminal a ∷ l) bit (inr h) = elim (Gives-right terminals g table right l bit h.1) [
+IsFirstBit-right terminals g table right (Nonterminal a ∷ l) bit (inr h) = elim (IsFirstBit-right terminals g table right l bit h.1) [
   | inl r ↦ inl (r.0, (nullable-cons (Nonterminal a) l).1 (right.nullable a h.0, r.1))
   | inr r ↦ inr (r.0, r.1, (first-cons (Nonterminal a) l r.0).1 (inr (right.nullable a h.0, r.2)))
 ]
 
-pub Gives-first : (terminals : List TerminalString) (g : List Production) (table : Table) → IsRight terminals g table → (l : List Symbol) (bit : ℕ) (t : TerminalString) → slice_get terminals bit ≡ Some t → Gives terminals table l bit → IsFirst g l t
-Gives-first terminals g table right l bit t at h = elim (Gives-right terminals g table right l bit h) [
+pub IsFirstBit-first : (terminals : List TerminalString) (g : List Production) (table : Table) → IsRight terminals g table → (l : List Symbol) (bit : ℕ) (t : TerminalString) → slice_get terminals bit ≡ Some t → IsFirstBit terminals table l bit → IsFirst g l t
+IsFirstBit-first terminals g table right l bit t at h = elim (IsFirstBit-right terminals g table right l bit h) [
   | inl r ↦ absurd (at_end terminals bit t at r.0)
   | inr r ↦ let same : r.0 ≡ t = same_some (sym r.1 ∙ at) in subst (λ (u : TerminalString). IsFirst g l u) same r.2
 ]
 
-pub Gives-nullable : (terminals : List TerminalString) (g : List Production) (table : Table) → IsRight terminals g table → (l : List Symbol) → Gives terminals table l (length terminals) → IsNullable g l
-Gives-nullable terminals g table right l h = elim (Gives-right terminals g table right l (length terminals) h) [
+pub IsFirstBit-nullable : (terminals : List TerminalString) (g : List Production) (table : Table) → IsRight terminals g table → (l : List Symbol) → IsFirstBit terminals table l (length terminals) → IsNullable g l
+IsFirstBit-nullable terminals g table right l h = elim (IsFirstBit-right terminals g table right l (length terminals) h) [
   | inl r ↦ r.1
   | inr r ↦ absurd (at_end terminals (length terminals) r.0 r.1 refl)
 ]
 
-pub Gives-fits : (terminals : List TerminalString) (g : List Production) (table : Table) → IsRight terminals g table → (l : List Symbol) (bit : ℕ) → Gives terminals table l bit → bit ≤ length terminals
-Gives-fits terminals g table right l bit h = elim (Gives-right terminals g table right l bit h) [
+pub IsFirstBit-fits : (terminals : List TerminalString) (g : List Production) (table : Table) → IsRight terminals g table → (l : List Symbol) (bit : ℕ) → IsFirstBit terminals table l bit → bit ≤ length terminals
+IsFirstBit-fits terminals g table right l bit h = elim (IsFirstBit-right terminals g table right l bit h) [
   | inl r ↦ let e = r.0 in omega arith
   | inr r ↦ let within : bit < length terminals = slice_get_within terminals bit r.0 r.1 in omega arith
 ]
@@ -70,12 +70,12 @@ Right-from_sets g table sets = record {
   fits = λ a bit h. (sets a).fits bit h;
 }
 
-nullable_given : (g : Rules) (table : Table) → AreFirstSetsOf g table → (l : List Symbol) → IsNullable g.productions l → Gives g.terminals table l (length g.terminals)
+nullable_given : (g : Rules) (table : Table) → AreFirstSetsOf g table → (l : List Symbol) → IsNullable g.productions l → IsFirstBit g.terminals table l (length g.terminals)
 nullable_given g table sets [] d = refl
 nullable_given g table sets (Terminal t ∷ l) d = absurd (not_nullable g.productions t l d)
 nullable_given g table sets (Nonterminal a ∷ l) d = let r = (nullable-cons (Nonterminal a) l).0 d in inr ((sets a).ends.1 r.0, nullable_given g table sets l r.1)
 
-first_given : (g : Rules) (table : Table) → AreFirstSetsOf g table → (bit : ℕ) (t : TerminalString) → slice_get g.terminals bit ≡ Some t → (l : List Symbol) → IsFirst g.productions l t → Gives g.terminals table l bit
+first_given : (g : Rules) (table : Table) → AreFirstSetsOf g table → (bit : ℕ) (t : TerminalString) → slice_get g.terminals bit ≡ Some t → (l : List Symbol) → IsFirst g.productions l t → IsFirstBit g.terminals table l bit
 first_given g table sets bit t at [] h = absurd (first-nil t h)
 first_given g table sets bit t at (Terminal u ∷ l) h = let r = forest-terminal (derives_forest h.1) in at ∙ ap Some (same_head r.1)
   where
@@ -86,13 +86,13 @@ first_given g table sets bit t at (Nonterminal a ∷ l) h = elim ((first-cons (N
   | inr f ↦ inr ((sets a).ends.1 f.0, first_given g table sets bit t at l f.1)
 ]
 
-pub First-set : (g : Rules) (table : Table) (l : List Symbol) (set : Bits) → AreFirstSetsOf g table → ((bit : ℕ) → (has set bit ≡ true) ↔ Gives g.terminals table l bit) → IsFirstSet g l set
+pub First-set : (g : Rules) (table : Table) (l : List Symbol) (set : Bits) → AreFirstSetsOf g table → ((bit : ℕ) → (has set bit ≡ true) ↔ IsFirstBit g.terminals table l bit) → IsFirstSet g l set
 First-set g table l set sets given =
     let right = Right-from_sets g table sets in
     record {
-      begins = λ bit t at. (λ h. Gives-first g.terminals g.productions table right l bit t at ((given bit).0 h), λ f. (given bit).1 (first_given g table sets bit t at l f));
-      ends = (λ h. Gives-nullable g.terminals g.productions table right l ((given (length g.terminals)).0 h), λ d. (given (length g.terminals)).1 (nullable_given g table sets l d));
-      fits = λ bit h. Gives-fits g.terminals g.productions table right l bit ((given bit).0 h);
+      begins = λ bit t at. (λ h. IsFirstBit-first g.terminals g.productions table right l bit t at ((given bit).0 h), λ f. (given bit).1 (first_given g table sets bit t at l f));
+      ends = (λ h. IsFirstBit-nullable g.terminals g.productions table right l ((given (length g.terminals)).0 h), λ d. (given (length g.terminals)).1 (nullable_given g table sets l d));
+      fits = λ bit h. IsFirstBit-fits g.terminals g.productions table right l bit ((given bit).0 h);
     }
 
 -- ---- the tokens that follow, instead of Eof

@@ -11,47 +11,47 @@ use Rattle.lalrpop_grammar.specs.declared.repr.Symbol.TheVariants.{Nonterminal, 
 use Rattle.lalrpop_grammar.specs.declared.first.numbered.NumberedSymbol.{NumberedSymbol}
 use Rattle.lalrpop_grammar.specs.declared.first.numbered.NumberedSymbol.TheVariants.{Bit, Name}
 use Rattle.lalrpop_collections.specs.Words.{Bits, has, no_bits}
-use Rattle.lalrpop_grammar.specs.Words.{name_cmp, Table, set_of, is_in, place, numbers_from, IsNumberedSymbol, GivesByNumber, set_at}
-use Rattle.lalrpop_grammar.specs.first.FirstTables.{Gives}
+use Rattle.lalrpop_grammar.specs.Words.{name_cmp, Table, first_set_of, is_in, place, numbered_names, IsNumberedSymbol, GivesByNumber, set_at}
+use Rattle.lalrpop_grammar.specs.first.FirstTables.{IsFirstBit}
 use Rattle.lalrpop_grammar.proofs.theory.first.FirstNames.{name_same, copied, insert_last}
 use Rattle.lalrpop_collections.proofs.theory.lists.Lists.{same_some}
 
 -- ---- the map of the numbers
-keys_numbered : (n : ℕ) (names : List NonterminalString) → keys_of (numbers_from n names) ≡ names
+keys_numbered : (n : ℕ) (names : List NonterminalString) → keys_of (numbered_names n names) ≡ names
 keys_numbered n [] = refl
 keys_numbered n (a ∷ names) = ap (λ ks. a ∷ ks) (keys_numbered (suc n) names)
 
 -- one more name, which is put at the end
-pub Numbers-more : (whole : List NonterminalString) (es new : List (NonterminalString × ℕ)) (a : NonterminalString) (rest : List NonterminalString) (n : ℕ) → IsStrictlySortedBy name_cmp whole → n ≡ length es → es ++ numbers_from n (a ∷ rest) ≡ numbers_from 0 whole
-    → new ≡ insert_entry name_cmp es a n → new ++ numbers_from (length new) rest ≡ numbers_from 0 whole
+pub Numbers-more : (whole : List NonterminalString) (es new : List (NonterminalString × ℕ)) (a : NonterminalString) (rest : List NonterminalString) (n : ℕ) → IsStrictlySortedBy name_cmp whole → n ≡ length es → es ++ numbered_names n (a ∷ rest) ≡ numbered_names 0 whole
+    → new ≡ insert_entry name_cmp es a n → new ++ numbered_names (length new) rest ≡ numbered_names 0 whole
 Numbers-more whole es new a rest n up long so_far is =
-    let sorted : IsStrictlySortedBy name_cmp (keys_of (es ++ (a, n) ∷ numbers_from (suc n) rest)) = rw (so_far, keys_numbered) up in
-    let last : new ≡ es ++ (a, n) ∷ [] = is ∙ insert_last es a n (numbers_from (suc n) rest) sorted in
+    let sorted : IsStrictlySortedBy name_cmp (keys_of (es ++ (a, n) ∷ numbered_names (suc n) rest)) = rw (so_far, keys_numbered) up in
+    let last : new ≡ es ++ (a, n) ∷ [] = is ∙ insert_last es a n (numbered_names (suc n) rest) sorted in
     let longer : length new ≡ suc n = ap length last ∙ length-append es ((a, n) ∷ []) ∙ omega arith in
-    ap (λ k. new ++ numbers_from k rest) longer ∙ ap (λ (xs : List (NonterminalString × ℕ)). xs ++ numbers_from (suc n) rest) last ∙ append_assoc es ((a, n) ∷ []) (numbers_from (suc n) rest) ∙ so_far
+    ap (λ k. new ++ numbered_names k rest) longer ∙ ap (λ (xs : List (NonterminalString × ℕ)). xs ++ numbered_names (suc n) rest) last ∙ append_assoc es ((a, n) ∷ []) (numbered_names (suc n) rest) ∙ so_far
 
-pub Numbers-all : (whole : List NonterminalString) (es : List (NonterminalString × ℕ)) → es ≡ numbers_from 0 whole → (es ≡ numbers_from 0 (keys_of es)) × (keys_of es ≡ whole)
+pub Numbers-all : (whole : List NonterminalString) (es : List (NonterminalString × ℕ)) → es ≡ numbered_names 0 whole → (es ≡ numbered_names 0 (keys_of es)) × (keys_of es ≡ whole)
 Numbers-all whole es is =
     let keys : keys_of es ≡ whole = ap keys_of is ∙ keys_numbered 0 whole in
-    (is ∙ ap (numbers_from 0) (sym keys), keys)
+    (is ∙ ap (numbered_names 0) (sym keys), keys)
 
 -- ---- places
-place_found : (names : List NonterminalString) (n k : ℕ) (a : NonterminalString) → lookup (is_at (name_cmp a)) (numbers_from n names) ≡ Some k → k ≡ n + place names a
+place_found : (names : List NonterminalString) (n k : ℕ) (a : NonterminalString) → lookup (is_at (name_cmp a)) (numbered_names n names) ≡ Some k → k ≡ n + place names a
 place_found [] n k a h = cc
 place_found (b ∷ names) n k a h = either (is_at (name_cmp a) b) (λ e. place_found names (suc n) k a e) h
   where
-    either : (t : Bool) → (lookup (is_at (name_cmp a)) (numbers_from (suc n) names) ≡ Some k → k ≡ suc n + place names a) → cond t (Some n) (lookup (is_at (name_cmp a)) (numbers_from (suc n) names)) ≡ Some k → k ≡ n + cond t 0 (suc (place names a))
+    either : (t : Bool) → (lookup (is_at (name_cmp a)) (numbered_names (suc n) names) ≡ Some k → k ≡ suc n + place names a) → cond t (Some n) (lookup (is_at (name_cmp a)) (numbered_names (suc n) names)) ≡ Some k → k ≡ n + cond t 0 (suc (place names a))
     either true later e = let same : n ≡ k = ap (λ o. unwrap_or o n) e in omega arith
     either false later e = let after : k ≡ suc n + place names a = later e in omega arith
 
-pub place_first : (names : List NonterminalString) (k : ℕ) (a : NonterminalString) → lookup (is_at (name_cmp a)) (numbers_from 0 names) ≡ Some k → k ≡ place names a
+pub place_first : (names : List NonterminalString) (k : ℕ) (a : NonterminalString) → lookup (is_at (name_cmp a)) (numbered_names 0 names) ≡ Some k → k ≡ place names a
 place_first names k a h = let found : k ≡ 0 + place names a = place_found names 0 k a h in omega arith
 
-pub place_none : (names : List NonterminalString) (n : ℕ) (a : NonterminalString) → lookup (is_at (name_cmp a)) (numbers_from n names) ≡ None → place names a ≡ length names
+pub place_none : (names : List NonterminalString) (n : ℕ) (a : NonterminalString) → lookup (is_at (name_cmp a)) (numbered_names n names) ≡ None → place names a ≡ length names
 place_none [] n a h = refl
 place_none (b ∷ names) n a h = either (is_at (name_cmp a) b) (λ e. place_none names (suc n) a e) h
   where
-    either : (t : Bool) → (lookup (is_at (name_cmp a)) (numbers_from (suc n) names) ≡ None → place names a ≡ length names) → cond t (Some n) (lookup (is_at (name_cmp a)) (numbers_from (suc n) names)) ≡ None → cond t 0 (suc (place names a)) ≡ suc (length names)
+    either : (t : Bool) → (lookup (is_at (name_cmp a)) (numbered_names (suc n) names) ≡ None → place names a ≡ length names) → cond t (Some n) (lookup (is_at (name_cmp a)) (numbered_names (suc n) names)) ≡ None → cond t 0 (suc (place names a)) ≡ suc (length names)
     either true later e = cc
     either false later e = ap suc (later e)
 
@@ -67,13 +67,13 @@ place_same (x ∷ names) a b l e = either (is_at (name_cmp a) x) (is_at (name_cm
     either false false later f g l e = later (omega arith) (omega arith)
 
 -- ---- sets under names
-pub set_of-zip : (names : List NonterminalString) (sets : List Bits) (a : NonterminalString) → length sets ≡ length names → set_of (zip names sets) a ≡ set_at sets (place names a)
-set_of-zip [] [] a e = refl
-set_of-zip [] (s ∷ sets) a e = absurd (omega arith)
-set_of-zip (b ∷ names) [] a e = absurd (omega arith)
-set_of-zip (b ∷ names) (s ∷ sets) a e = either (is_at (name_cmp a) b) (set_of-zip names sets a (omega arith))
+pub first_set_of-zip : (names : List NonterminalString) (sets : List Bits) (a : NonterminalString) → length sets ≡ length names → first_set_of (zip names sets) a ≡ set_at sets (place names a)
+first_set_of-zip [] [] a e = refl
+first_set_of-zip [] (s ∷ sets) a e = absurd (omega arith)
+first_set_of-zip (b ∷ names) [] a e = absurd (omega arith)
+first_set_of-zip (b ∷ names) (s ∷ sets) a e = either (is_at (name_cmp a) b) (first_set_of-zip names sets a (omega arith))
   where
-    either : (t : Bool) → set_of (zip names sets) a ≡ set_at sets (place names a) → unwrap_or (cond t (Some s) (lookup (is_at (name_cmp a)) (zip names sets))) no_bits ≡ set_at (s ∷ sets) (cond t 0 (suc (place names a)))
+    either : (t : Bool) → first_set_of (zip names sets) a ≡ set_at sets (place names a) → unwrap_or (cond t (Some s) (lookup (is_at (name_cmp a)) (zip names sets))) no_bits ≡ set_at (s ∷ sets) (cond t 0 (suc (place names a)))
     either true h = refl
     either false h = h
 
@@ -83,9 +83,9 @@ module _ (terminals : List TerminalString) (names : List NonterminalString) (set
   end = length terminals
 
   has_zip : (a : NonterminalString) (n bit : ℕ) → n ≡ place names a → has (set_at sets n) bit ≡ is_in (zip names sets) a bit
-  has_zip a n bit e = ap (λ k. has (set_at sets k) bit) e ∙ sym (ap (λ s. has s bit) (set_of-zip names sets a long))
+  has_zip a n bit e = ap (λ k. has (set_at sets k) bit) e ∙ sym (ap (λ s. has s bit) (first_set_of-zip names sets a long))
 
-  pub by_number : (l : List Symbol) (ns : List NumberedSymbol) (bit : ℕ) → AllZip (IsNumberedSymbol terminals names) l ns → Gives terminals (zip names sets) l bit → GivesByNumber end sets ns bit
+  pub by_number : (l : List Symbol) (ns : List NumberedSymbol) (bit : ℕ) → AllZip (IsNumberedSymbol terminals names) l ns → IsFirstBit terminals (zip names sets) l bit → GivesByNumber end sets ns bit
   by_number [] [] bit z g = g
   by_number [] (n ∷ ns) bit z g = absurd z
   by_number (x ∷ l) [] bit z g = absurd z
@@ -95,7 +95,7 @@ module _ (terminals : List TerminalString) (names : List NonterminalString) (set
   by_number (Nonterminal a ∷ l) (Name n ∷ ns) bit z (inl h) = inl (has_zip a n bit z.0 ∙ h.0, h.1)
   by_number (Nonterminal a ∷ l) (Name n ∷ ns) bit z (inr h) = inr (has_zip a n end z.0 ∙ h.0, by_number l ns bit z.1 h.1)
 
-  pub by_name : (l : List Symbol) (ns : List NumberedSymbol) (bit : ℕ) → AllZip (IsNumberedSymbol terminals names) l ns → GivesByNumber end sets ns bit → Gives terminals (zip names sets) l bit
+  pub by_name : (l : List Symbol) (ns : List NumberedSymbol) (bit : ℕ) → AllZip (IsNumberedSymbol terminals names) l ns → GivesByNumber end sets ns bit → IsFirstBit terminals (zip names sets) l bit
   by_name [] [] bit z g = g
   by_name [] (n ∷ ns) bit z g = absurd z
   by_name (x ∷ l) [] bit z g = absurd z

@@ -4,13 +4,13 @@ use Rattle.std.specs.Prelude.{Contains}
 use Rattle.std.proofs.lemmas.Bool.{or_right, or_left}
 use Rattle.std.proofs.lemmas.List.{take_more}
 use Rattle.std.proofs.lemmas.List.Elements.{Contains-append_cases}
-use Rattle.lalrpop_grammar.specs.Words.{IsQueued}
+use Rattle.lalrpop_grammar.specs.Words.{Enqueues}
 use Rattle.lalrpop_collections.specs.Words.{Waiting, waits}
 use Rattle.lalrpop_collections.specs.lists.Queues.{waiting_with}
 use Rattle.lalrpop_collections.proofs.theory.collections.Queues.{waits-with}
 use Rattle.lalrpop_grammar.proofs.theory.first.FirstUses.{only_one}
 
-pub Queued-none : (queue : Waiting) → IsQueued [] queue queue
+pub Queued-none : (queue : Waiting) → Enqueues [] queue queue
 Queued-none queue = record {
   limit = refl;
   kept = λ k h. h;
@@ -18,7 +18,7 @@ Queued-none queue = record {
   few = λ h. h;
 }
 
-pub Queued-more : (numbers : List ℕ) (i n : ℕ) (start old new : Waiting) → i < length numbers → n ≡ get_or numbers i n → IsQueued (take i numbers) start old → new.limit ≡ old.limit → new.numbers ≡ waiting_with n old.numbers → length new.numbers ≤ new.limit → IsQueued (take (i + 1) numbers) start new
+pub Queued-more : (numbers : List ℕ) (i n : ℕ) (start old new : Waiting) → i < length numbers → n ≡ get_or numbers i n → Enqueues (take i numbers) start old → new.limit ≡ old.limit → new.numbers ≡ waiting_with n old.numbers → length new.numbers ≤ new.limit → Enqueues (take (i + 1) numbers) start new
 Queued-more numbers i n start old new within is q limit with few =
     let added : (k : ℕ) → waits new.numbers k ≡ ((k == n) || waits old.numbers k) = λ k. ap (λ (ns : List ℕ). waits ns k) with ∙ waits-with old.numbers n k in
     let more : take (i + 1) numbers ≡ take i numbers ++ n ∷ [] = take_more numbers i n within ∙ ap (λ (w : ℕ). take i numbers ++ w ∷ []) (sym is) in

@@ -8,8 +8,8 @@ use Rattle.lalrpop_grammar.specs.declared.repr.Symbol.TheVariants.{Nonterminal, 
 use Rattle.lalrpop_grammar.specs.declared.first.numbered.NumberedSymbol.{NumberedSymbol}
 use Rattle.lalrpop_grammar.specs.declared.first.numbered.NumberedSymbol.TheVariants.{Bit, Name}
 use Rattle.lalrpop_collections.specs.Words.{Bits, has, no_bits, with_bit, join, has-no_bits, has-with_bit, has-join}
-use Rattle.lalrpop_grammar.specs.Words.{Table, set_of, IsSetJoined, GivesByNumber, set_at}
-use Rattle.lalrpop_grammar.specs.first.FirstTables.{Gives}
+use Rattle.lalrpop_grammar.specs.Words.{Table, first_set_of, IsSetJoined, GivesByNumber, set_at}
+use Rattle.lalrpop_grammar.specs.first.FirstTables.{IsFirstBit}
 use Rattle.lalrpop_collections.proofs.theory.collections.Queues.{or_false}
 
 -- ---- one set
@@ -129,12 +129,12 @@ First-end G end l index i none bit = same_given G (drop index l) [] bit (bit ≡
 
 -- by names
 module _ (terminals : List TerminalString) (table : Table) (l : List Symbol) (index : ℕ) (x : Symbol) (within : index < length l) (is : x ≡ get_or l index x) where
-  pub First-terminal : (t : TerminalString) (b : ℕ) → x ≡ Terminal t → slice_get terminals b ≡ Some t → ((bit : ℕ) → slice_get terminals bit ≡ Some t → b ≡ bit) → (bit : ℕ) → Gives terminals table (drop index l) bit ↔ (bit ≡ b)
-  First-terminal t b e at only bit = same_given (Gives terminals table) (drop index l) (Terminal t ∷ drop (index + 1) l) bit (bit ≡ b) (head_at l index x within is ∙ ap (λ (y : Symbol). y ∷ drop (index + 1) l) e)
+  pub First-terminal : (t : TerminalString) (b : ℕ) → x ≡ Terminal t → slice_get terminals b ≡ Some t → ((bit : ℕ) → slice_get terminals bit ≡ Some t → b ≡ bit) → (bit : ℕ) → IsFirstBit terminals table (drop index l) bit ↔ (bit ≡ b)
+  First-terminal t b e at only bit = same_given (IsFirstBit terminals table) (drop index l) (Terminal t ∷ drop (index + 1) l) bit (bit ≡ b) (head_at l index x within is ∙ ap (λ (y : Symbol). y ∷ drop (index + 1) l) e)
       (λ g. sym (only bit g), λ same. ap (slice_get terminals) same ∙ at)
 
-  pub First-nonterminal : (a : NonterminalString) → x ≡ Nonterminal a → (bit : ℕ) → Gives terminals table (drop index l) bit ↔ GivesAtName (Gives terminals table) (length terminals) (set_of table a) (drop (index + 1) l) bit
-  First-nonterminal a e bit = same_given (Gives terminals table) (drop index l) (Nonterminal a ∷ drop (index + 1) l) bit _ (head_at l index x within is ∙ ap (λ (y : Symbol). y ∷ drop (index + 1) l) e) (λ g. g, λ g. g)
+  pub First-nonterminal : (a : NonterminalString) → x ≡ Nonterminal a → (bit : ℕ) → IsFirstBit terminals table (drop index l) bit ↔ GivesAtName (IsFirstBit terminals table) (length terminals) (first_set_of table a) (drop (index + 1) l) bit
+  First-nonterminal a e bit = same_given (IsFirstBit terminals table) (drop index l) (Nonterminal a ∷ drop (index + 1) l) bit _ (head_at l index x within is ∙ ap (λ (y : Symbol). y ∷ drop (index + 1) l) e) (λ g. g, λ g. g)
 
 -- by numbers
 module _ (end : ℕ) (sets : List Bits) (l : List NumberedSymbol) (index : ℕ) (x : NumberedSymbol) (within : index < length l) (is : x ≡ get_or l index x) where

@@ -8,7 +8,7 @@ use Rattle.lalrpop_grammar.specs.declared.first.numbered.NumberedSymbol.{Numbere
 use Rattle.lalrpop_grammar.specs.declared.first.numbered.NumberedSymbol.TheVariants.{Bit, Name}
 use Rattle.lalrpop_grammar.specs.declared.first.numbered.NumberedProduction.{NumberedProduction}
 use Rattle.lalrpop_collections.specs.Words.{Bits, has, rising, no_bits, join, has-join}
-use Rattle.lalrpop_grammar.specs.Words.{IsAdded, GivesByNumber, set_at}
+use Rattle.lalrpop_grammar.specs.Words.{IsProductionAdded, GivesByNumber, set_at}
 use Rattle.lalrpop_collections.proofs.theory.sets.BitCounts.{join_larger, rising_small}
 
 -- ---- for a list without a name, the set of the name does not matter
@@ -27,7 +27,7 @@ without end sets n s (Name m ∷ l) none bit (inr h) =
 abbrev pub weight : List Bits → ℕ
 weight sets = sum_by (λ s. length (rising s)) sets
 
-module _ (end : ℕ) (p : NumberedProduction) (grew : Bool) (old new : List Bits) (added : IsAdded end p grew old new) where
+module _ (end : ℕ) (p : NumberedProduction) (grew : Bool) (old new : List Bits) (added : IsProductionAdded end p grew old new) where
   pub Added-long : length new ≡ length old
   Added-long = ap length added.joined ∙ length-set old p.name (join (set_at old p.name) added.given)
 

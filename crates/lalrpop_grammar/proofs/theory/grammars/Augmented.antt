@@ -6,7 +6,7 @@ use Rattle.std.specs.Prelude.{Contains}
 use mathlib.Core.List.{head-eq_of_cons-eq, tail-eq_of_cons-eq, nil≢cons, cons≢nil}
 use Rattle.lalrpop_grammar.proofs.Types.{NonterminalString, Production, Symbol, TerminalString, Token}
 use Rattle.lalrpop_grammar.specs.declared.repr.Symbol.TheVariants.{Nonterminal, Terminal}
-use Rattle.lalrpop_grammar.specs.Words.{Derives, as_it_is, replace, symbols_of, IsSentence, IsBeginning, IsOnNoRightSide, Tree, Leaf, Node, Trees, no_trees}
+use Rattle.lalrpop_grammar.specs.Words.{Derives, as_it_is, replace, terminal_symbols, IsSentence, IsBeginning, IsOnNoRightSide, Tree, Leaf, Node, Trees, no_trees}
 use Rattle.lalrpop_grammar.specs.Words.{beside, root, roots, leaves, nodes, IsNode, AreOfGrammar, IsParseTree, IsAugmented, Contents, AreFaithful, HasOutcome}
 use Rattle.lalrpop_grammar.specs.Words.{Parsed, Refused, IsFirstWrong, at_terminal, at_end}
 use Rattle.lalrpop_collections.proofs.theory.lists.Lists.{contains-cons, contains-nil, contains_head, contains_tail}
@@ -141,7 +141,7 @@ module _ (g h : List Production) (start f : NonterminalString) (aug : IsAugmente
       Derives-trans (Derives-from (ap (λ a. Nonterminal a ∷ []) aug.name) (Derives-to aug.symbols (Derives-production aug.added added_there))) (derives_new d)
 
   -- a list of terminals is not the beginning of the list of the new name, unless it is empty
-  not_terminals : (w : List TerminalString) (rest : List Symbol) → symbols_of w ++ rest ≡ Nonterminal f ∷ [] → w ≡ []
+  not_terminals : (w : List TerminalString) (rest : List Symbol) → terminal_symbols w ++ rest ≡ Nonterminal f ∷ [] → w ≡ []
   not_terminals [] rest e = refl
   not_terminals (t ∷ w) rest e = absurd (not_both (sym (head-eq_of_cons-eq e)))
 
@@ -149,11 +149,11 @@ module _ (g h : List Production) (start f : NonterminalString) (aug : IsAugmente
   pub same_sentences : (w : List TerminalString) → IsSentence h f w ↔ IsSentence g start w
   same_sentences w = (λ d. go (derived_old (derives_forest d) refl), derived_new)
     where
-      nothing : (v : List TerminalString) → symbols_of v ≡ Nonterminal f ∷ [] → ⊥
+      nothing : (v : List TerminalString) → terminal_symbols v ≡ Nonterminal f ∷ [] → ⊥
       nothing [] e = nil≢cons e
       nothing (t ∷ v) e = not_both (sym (head-eq_of_cons-eq e))
 
-      go : (symbols_of w ≡ Nonterminal f ∷ []) ⊎ IsSentence g start w → IsSentence g start w
+      go : (terminal_symbols w ≡ Nonterminal f ∷ []) ⊎ IsSentence g start w → IsSentence g start w
       go (inl e) = absurd (nothing w e)
       go (inr d) = d
 
@@ -161,7 +161,7 @@ module _ (g h : List Production) (start f : NonterminalString) (aug : IsAugmente
   pub same_beginnings : (w : List TerminalString) → IsBeginning h f w ↔ IsBeginning g start w
   same_beginnings w = (λ b. go b.0 (derived_old (derives_forest b.1) refl), λ b. (b.0, derived_new b.1))
     where
-      go : (rest : List Symbol) → (symbols_of w ++ rest ≡ Nonterminal f ∷ []) ⊎ Derives g (Nonterminal start ∷ []) (symbols_of w ++ rest) → IsBeginning g start w
+      go : (rest : List Symbol) → (terminal_symbols w ++ rest ≡ Nonterminal f ∷ []) ⊎ Derives g (Nonterminal start ∷ []) (terminal_symbols w ++ rest) → IsBeginning g start w
       go rest (inl e) = subst (IsBeginning g start) (sym (not_terminals w rest e)) (Nonterminal start ∷ [], as_it_is)
       go rest (inr d) = (rest, d)
 

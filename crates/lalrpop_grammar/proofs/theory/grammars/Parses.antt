@@ -4,7 +4,7 @@ use Rattle.std.proofs.Common.{◌≡◌, ◌↔◌, List, [], ◌∷◌, ◌++�
 use mathlib.Core.List.{head-eq_of_cons-eq, tail-eq_of_cons-eq, nil≢cons, cons≢nil}
 use Rattle.lalrpop_grammar.proofs.Types.{NonterminalString, Production, Symbol, TerminalString}
 use Rattle.lalrpop_grammar.specs.declared.repr.Symbol.TheVariants.{Nonterminal}
-use Rattle.lalrpop_grammar.specs.Words.{Derives, symbols_of, IsSentence, Tree, Leaf, Node, Trees, no_trees, beside, roots, leaves, AreOfGrammar, IsParseTree}
+use Rattle.lalrpop_grammar.specs.Words.{Derives, terminal_symbols, IsSentence, Tree, Leaf, Node, Trees, no_trees, beside, roots, leaves, AreOfGrammar, IsParseTree}
 use Rattle.lalrpop_grammar.proofs.theory.grammars.SymbolLists.{TerminalParts, terminal_parts}
 use Rattle.lalrpop_grammar.proofs.theory.grammars.Derivations.{Derives-from, Derives-to}
 use Rattle.lalrpop_grammar.proofs.theory.grammars.Forests.{Forest, empty, leaf, node, derives_forest}
@@ -18,7 +18,7 @@ pub record Parsed (g : List Production) (l : List Symbol) (w : List TerminalStri
   pub spells : leaves trees ≡ w
 
 -- a forest whose leaves are terminals is one of parse trees
-pub forest_parsed : {g : List Production} {l n : List Symbol} → Forest g l n → (w : List TerminalString) → n ≡ symbols_of w → Parsed g l w
+pub forest_parsed : {g : List Production} {l n : List Symbol} → Forest g l n → (w : List TerminalString) → n ≡ terminal_symbols w → Parsed g l w
 forest_parsed empty [] e = record { trees = no_trees; of_grammar = tt; over = refl; spells = refl }
 forest_parsed empty (t ∷ w) e = absurd (nil≢cons e)
 forest_parsed (leaf x f) [] e = absurd (cons≢nil e)
@@ -42,12 +42,12 @@ forest_parsed (node p {m = m} {n = n} h d f) w e =
     }
 
 -- a derivation of a list of terminals gives trees
-pub derives_parsed : {g : List Production} {l : List Symbol} (w : List TerminalString) → Derives g l (symbols_of w) → Parsed g l w
+pub derives_parsed : {g : List Production} {l : List Symbol} (w : List TerminalString) → Derives g l (terminal_symbols w) → Parsed g l w
 derives_parsed w d = forest_parsed (derives_forest d) w refl
 
 -- trees give a derivation of the list of their leaves
-pub parsed_derives : {g : List Production} {l : List Symbol} (w : List TerminalString) → Parsed g l w → Derives g l (symbols_of w)
-parsed_derives w r = Derives-from r.over (Derives-to (ap symbols_of r.spells) (roots_derive r.trees r.of_grammar))
+pub parsed_derives : {g : List Production} {l : List Symbol} (w : List TerminalString) → Parsed g l w → Derives g l (terminal_symbols w)
+parsed_derives w r = Derives-from r.over (Derives-to (ap terminal_symbols r.spells) (roots_derive r.trees r.of_grammar))
 
 -- the sentences are the lists with a parse tree
 pub sentence_tree : (g : List Production) (start : NonterminalString) (w : List TerminalString) → IsSentence g start w ↔ ((t : Tree) × IsParseTree g start w t)

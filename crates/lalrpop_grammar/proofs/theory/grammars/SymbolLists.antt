@@ -4,7 +4,7 @@ use Rattle.std.proofs.Common.{List, ap, ap₂, refl, subst, sym, ◌++◌, [], �
 use mathlib.Core.List.{cons≢nil, head-eq_of_cons-eq, tail-eq_of_cons-eq}
 use Rattle.lalrpop_grammar.proofs.Types.{NonterminalString, Symbol, TerminalString}
 use Rattle.lalrpop_grammar.specs.declared.repr.Symbol.TheVariants.{Nonterminal, Terminal}
-use Rattle.lalrpop_grammar.specs.Words.{symbols_of}
+use Rattle.lalrpop_grammar.specs.Words.{terminal_symbols}
 
 -- the terminal of a symbol, and the given one if the symbol is a nonterminal
 abbrev pub terminal_of : TerminalString → Symbol → TerminalString
@@ -36,11 +36,11 @@ pub record TerminalParts (m n : List Symbol) (w : List TerminalString) : Type 0 
   pub first : List TerminalString
   pub second : List TerminalString
   pub joined : w ≡ first ++ second
-  pub left : m ≡ symbols_of first
-  pub right : n ≡ symbols_of second
+  pub left : m ≡ terminal_symbols first
+  pub right : n ≡ terminal_symbols second
 
 -- if two lists of symbols make a list of terminals, both are lists of terminals
-pub terminal_parts : (m n : List Symbol) (w : List TerminalString) → m ++ n ≡ symbols_of w → TerminalParts m n w
+pub terminal_parts : (m n : List Symbol) (w : List TerminalString) → m ++ n ≡ terminal_symbols w → TerminalParts m n w
 terminal_parts [] n w e = record { first = []; second = w; joined = refl; left = refl; right = e }
 terminal_parts (x ∷ m) n [] e = absurd (cons≢nil e)
 terminal_parts (x ∷ m) n (t ∷ w) e =
@@ -54,18 +54,18 @@ terminal_parts (x ∷ m) n (t ∷ w) e =
     }
 
 -- the symbols of joined lists are joined
-pub symbols_of-append : (v w : List TerminalString) → symbols_of (v ++ w) ≡ symbols_of v ++ symbols_of w
-symbols_of-append [] w = refl
-symbols_of-append (t ∷ v) w = ap (λ l. Terminal t ∷ l) (symbols_of-append v w)
+pub terminal_symbols-append : (v w : List TerminalString) → terminal_symbols (v ++ w) ≡ terminal_symbols v ++ terminal_symbols w
+terminal_symbols-append [] w = refl
+terminal_symbols-append (t ∷ v) w = ap (λ l. Terminal t ∷ l) (terminal_symbols-append v w)
 
 -- the place of a terminal after other terminals in a joined list: inside the first part, or after
 -- it
 pub data Place (m n : List Symbol) (v : List TerminalString) (t : TerminalString) (after : List Symbol) : Type 0 where
-  inside : (k : List Symbol) → m ≡ symbols_of v ++ Terminal t ∷ k → Place m n v t after
-  behind : (first second : List TerminalString) → v ≡ first ++ second → m ≡ symbols_of first → n ≡ symbols_of second ++ Terminal t ∷ after → Place m n v t after
+  inside : (k : List Symbol) → m ≡ terminal_symbols v ++ Terminal t ∷ k → Place m n v t after
+  behind : (first second : List TerminalString) → v ≡ first ++ second → m ≡ terminal_symbols first → n ≡ terminal_symbols second ++ Terminal t ∷ after → Place m n v t after
 
 -- the terminal is at one of the two places
-pub place : (m n : List Symbol) (v : List TerminalString) (t : TerminalString) (after : List Symbol) → m ++ n ≡ symbols_of v ++ Terminal t ∷ after → Place m n v t after
+pub place : (m n : List Symbol) (v : List TerminalString) (t : TerminalString) (after : List Symbol) → m ++ n ≡ terminal_symbols v ++ Terminal t ∷ after → Place m n v t after
 place [] n v t after e = behind [] v refl refl e
 place (x ∷ m) n [] t after e = inside m (ap (λ y. y ∷ m) (head-eq_of_cons-eq e))
 place (x ∷ m) n (u ∷ v) t after e = go (place m n v t after (tail-eq_of_cons-eq e))

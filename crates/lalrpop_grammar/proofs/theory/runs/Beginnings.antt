@@ -5,10 +5,10 @@ use Rattle.std.specs.Prelude.{Contains}
 use mathlib.Core.List.{head-eq_of_cons-eq, tail-eq_of_cons-eq, nil≢cons}
 use Rattle.lalrpop_grammar.proofs.Types.{NonterminalString, Production, Symbol, TerminalString}
 use Rattle.lalrpop_grammar.specs.declared.repr.Symbol.TheVariants.{Nonterminal, Terminal}
-use Rattle.lalrpop_grammar.specs.Words.{Derives, symbols_of, IsBeginning, Valid, starts, shifts, expands, ValidToken, begins_behind, IsAwaited, Contents}
+use Rattle.lalrpop_grammar.specs.Words.{Derives, terminal_symbols, IsBeginning, Valid, starts, shifts, expands, ValidToken, begins_behind, IsAwaited, Contents}
 use Rattle.lalrpop_grammar.specs.Words.{state_after, AreFaithful, Tree, Leaf, Node, leaves, nodes, IsNode, Configuration, next_token, shifts_or, Reaches, here, further, begin}
 use Rattle.lalrpop_collections.proofs.theory.lists.Lists.{drop_past}
-use Rattle.lalrpop_grammar.proofs.theory.grammars.SymbolLists.{same_nonterminal, not_both, place, symbols_of-append, inside, behind}
+use Rattle.lalrpop_grammar.proofs.theory.grammars.SymbolLists.{same_nonterminal, not_both, place, terminal_symbols-append, inside, behind}
 use Rattle.lalrpop_grammar.proofs.theory.grammars.Derivations.{Derives-to}
 use Rattle.lalrpop_grammar.proofs.theory.grammars.Forests.{Forest, empty, leaf, node, forest_derives, derives_forest, forest-nil, Forest-from}
 use Rattle.lalrpop_grammar.proofs.theory.grammars.Parses.{Parsed, forest_parsed}
@@ -16,9 +16,9 @@ use Rattle.lalrpop_grammar.proofs.theory.runs.Steps.{Reaches-append, Reaches-fro
 use Rattle.lalrpop_grammar.proofs.theory.runs.Reading.{leads_on, reads, node_read, IsRead, IsNodeRead}
 
 -- the token that follows in the input is one of the tokens of a production before it
-pub token_behind : {g : List Production} {start : NonterminalString} {u : List Symbol} {p : Production} {dot : ℕ} (second : List TerminalString) (t : TerminalString) (rest : List TerminalString) (after : List Symbol) (q : Production) (l : List Symbol) → Valid g start u p dot → drop dot p.symbols ≡ Nonterminal q.nonterminal ∷ l → Contains g q → Derives g l (symbols_of second ++ Terminal t ∷ after) → ValidToken g start u q 0 (next_token (second ++ t ∷ rest))
+pub token_behind : {g : List Production} {start : NonterminalString} {u : List Symbol} {p : Production} {dot : ℕ} (second : List TerminalString) (t : TerminalString) (rest : List TerminalString) (after : List Symbol) (q : Production) (l : List Symbol) → Valid g start u p dot → drop dot p.symbols ≡ Nonterminal q.nonterminal ∷ l → Contains g q → Derives g l (terminal_symbols second ++ Terminal t ∷ after) → ValidToken g start u q 0 (next_token (second ++ t ∷ rest))
 token_behind [] t rest after q l v k h d = begins_behind q l v k h (after, d)
-token_behind (x ∷ second) t rest after q l v k h d = begins_behind q l v k h (symbols_of second ++ Terminal t ∷ after, d)
+token_behind (x ∷ second) t rest after q l v k h d = begins_behind q l v k h (terminal_symbols second ++ Terminal t ∷ after, d)
 
 module _ (g : List Production) (start : NonterminalString) (states : ℕ → Contents) (faithful : AreFaithful g start states) where
   -- a run from a configuration comes to a configuration in which t is the next token and is shifted
@@ -36,7 +36,7 @@ module _ (g : List Production) (start : NonterminalString) (states : ℕ → Con
 
   -- reading a forest from the left up to a terminal t brings the run to a shift of t, if the roots
   -- of the forest are after a dot
-  pub reads_to : {l n : List Symbol} → Forest g l n → (v : List TerminalString) (t : TerminalString) (after : List Symbol) → n ≡ symbols_of v ++ Terminal t ∷ after → (rest : List TerminalString) (u : List Symbol) (p : Production) (dot : ℕ) → Valid g start u p dot → drop dot p.symbols ≡ l → (s : ℕ) (below : List ℕ) (trees : List Tree) → state_after states u ≡ Some s → ComesTo (record { state = s; below = below; trees = trees; rest = v ++ t ∷ rest }) t rest
+  pub reads_to : {l n : List Symbol} → Forest g l n → (v : List TerminalString) (t : TerminalString) (after : List Symbol) → n ≡ terminal_symbols v ++ Terminal t ∷ after → (rest : List TerminalString) (u : List Symbol) (p : Production) (dot : ℕ) → Valid g start u p dot → drop dot p.symbols ≡ l → (s : ℕ) (below : List ℕ) (trees : List Tree) → state_after states u ≡ Some s → ComesTo (record { state = s; below = below; trees = trees; rest = v ++ t ∷ rest }) t rest
   reads_to empty [] t after e rest u p dot v k s below trees at = absurd (nil≢cons e)
   reads_to empty (x ∷ w) t after e rest u p dot v k s below trees at = absurd (nil≢cons e)
   reads_to (leaf x {l} f) [] t after e rest u p dot v k s below trees at =
@@ -68,13 +68,13 @@ module _ (g : List Production) (start : NonterminalString) (states : ℕ → Con
   -- each terminal with which the input so far is a beginning is shifted
   pub beginning_shifted : (v : List TerminalString) (t : TerminalString) (rest : List TerminalString) → IsBeginning g start (v ++ t ∷ []) → ComesTo (begin (v ++ t ∷ rest)) t rest
   beginning_shifted v t rest b =
-      from_start (derives_forest b.1) refl (ap (λ l. l ++ b.0) (symbols_of-append v (t ∷ [])) ∙ append_assoc (symbols_of v) (Terminal t ∷ []) b.0)
+      from_start (derives_forest b.1) refl (ap (λ l. l ++ b.0) (terminal_symbols-append v (t ∷ [])) ∙ append_assoc (terminal_symbols v) (Terminal t ∷ []) b.0)
     where
-      no_leaf : {x : Symbol} {l : List Symbol} (w : List TerminalString) → x ≡ Nonterminal start → x ∷ l ≡ symbols_of w ++ Terminal t ∷ b.0 → ⊥
+      no_leaf : {x : Symbol} {l : List Symbol} (w : List TerminalString) → x ≡ Nonterminal start → x ∷ l ≡ terminal_symbols w ++ Terminal t ∷ b.0 → ⊥
       no_leaf [] e k = not_both (sym e ∙ head-eq_of_cons-eq k)
       no_leaf (y ∷ w) e k = not_both (sym e ∙ head-eq_of_cons-eq k)
 
-      from_start : {l n : List Symbol} → Forest g l n → l ≡ Nonterminal start ∷ [] → n ≡ symbols_of v ++ Terminal t ∷ b.0 → ComesTo (begin (v ++ t ∷ rest)) t rest
+      from_start : {l n : List Symbol} → Forest g l n → l ≡ Nonterminal start ∷ [] → n ≡ terminal_symbols v ++ Terminal t ∷ b.0 → ComesTo (begin (v ++ t ∷ rest)) t rest
       from_start empty e k = absurd (nil≢cons e)
       from_start (leaf x f) e k = absurd (no_leaf v (head-eq_of_cons-eq e) k)
       from_start (node q {m = m} {n = n} h d f) e k =

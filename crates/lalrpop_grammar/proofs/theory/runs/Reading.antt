@@ -5,35 +5,35 @@ use Rattle.std.specs.Prelude.{Contains}
 use Rattle.lalrpop_grammar.proofs.Types.{NonterminalString, Production, Symbol, TerminalString, Token}
 use Rattle.lalrpop_grammar.specs.declared.repr.Symbol.TheVariants.{Nonterminal, Terminal}
 use Rattle.lalrpop_grammar.specs.declared.lookahead.token.Token.TheVariants.{Eof, Terminal as TokenOf}
-use Rattle.lalrpop_grammar.specs.Words.{Derives, as_it_is, replace, symbols_of, ValidToken, kept, begins_behind, passed_on, IsAwaited, IsLive, Action, Shift}
+use Rattle.lalrpop_grammar.specs.Words.{Derives, as_it_is, replace, terminal_symbols, ValidToken, kept, begins_behind, passed_on, IsAwaited, IsLive, Action, Shift}
 use Rattle.lalrpop_grammar.specs.Words.{Reduce, Contents, leads, state_after, IsRightFor, AreFaithful, Tree, Leaf, Node, Trees, no_trees, beside, roots, leaves}
 use Rattle.lalrpop_grammar.specs.Words.{nodes, IsNode, AreOfGrammar, Configuration, next_token, reduction_on, Goes, reduced, goes_on, received, reduces, shifts_or}
 use Rattle.lalrpop_grammar.specs.Words.{moves_on, move, Reaches, here, further}
 use Rattle.lalrpop_collections.proofs.theory.lists.Lists.{drop_past, same_some}
-use Rattle.lalrpop_grammar.proofs.theory.grammars.SymbolLists.{symbols_of-append}
+use Rattle.lalrpop_grammar.proofs.theory.grammars.SymbolLists.{terminal_symbols-append}
 use Rattle.lalrpop_grammar.proofs.theory.grammars.Derivations.{Derives-from, Derives-to, Derives-append}
 use Rattle.lalrpop_grammar.proofs.theory.closures.Valid.{valid, shifted_whole}
 use Rattle.lalrpop_grammar.proofs.theory.runs.Steps.{state_from-more, Reaches-append, Reaches-from, reduction_is, onto, reduced_is}
 use Rattle.lalrpop_grammar.proofs.theory.states.RightStates.{edges_awaited, token_stands}
 
 -- the roots of trees of a grammar derive their leaves
-pub roots_derive : {g : List Production} (ts : Trees) → AreOfGrammar g ts → Derives g (roots ts) (symbols_of (leaves ts))
+pub roots_derive : {g : List Production} (ts : Trees) → AreOfGrammar g ts → Derives g (roots ts) (terminal_symbols (leaves ts))
 roots_derive no_trees h = as_it_is
 roots_derive (beside (Leaf t) ts) h = Derives-append {k = Terminal t ∷ []} {m = Terminal t ∷ []} as_it_is (roots_derive ts h)
 roots_derive {g} (beside (Node a children) ts) h =
     let n = h.0 in
     Derives-from (ap (λ b. Nonterminal b ∷ roots ts) n.name)
     (replace [] (roots ts) n.production n.of_grammar
-    (Derives-to (sym (symbols_of-append (leaves children) (leaves ts)))
+    (Derives-to (sym (terminal_symbols-append (leaves children) (leaves ts)))
     (Derives-append (Derives-from (sym n.symbols) (roots_derive children h.1)) (roots_derive ts h.2))))
 
 -- the token that follows in the input is one of the tokens of a child's production
 pub child_token : {g : List Production} {start : NonterminalString} {u : List Symbol} {p : Production} {dot : ℕ} (q : Production) (ts : Trees) (rest : List TerminalString) → AreOfGrammar g ts → ValidToken g start u p dot (next_token rest) → drop dot p.symbols ≡ Nonterminal q.nonterminal ∷ roots ts → Contains g q → ValidToken g start u q 0 (next_token (leaves ts ++ rest))
 child_token {g} {start} {u} q ts rest of v e h = go (leaves ts) (roots_derive ts of)
   where
-    go : (w : List TerminalString) → Derives g (roots ts) (symbols_of w) → ValidToken g start u q 0 (next_token (w ++ rest))
+    go : (w : List TerminalString) → Derives g (roots ts) (terminal_symbols w) → ValidToken g start u q 0 (next_token (w ++ rest))
     go [] d = passed_on q (roots ts) v e h d
-    go (t ∷ w) d = begins_behind q (roots ts) (valid v) e h (symbols_of w, d)
+    go (t ∷ w) d = begins_behind q (roots ts) (valid v) e h (terminal_symbols w, d)
 
 module _ (g : List Production) (start : NonterminalString) (states : ℕ → Contents) (faithful : AreFaithful g start states) where
   -- the state after a live prefix is right for it

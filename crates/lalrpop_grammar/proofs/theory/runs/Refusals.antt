@@ -3,7 +3,7 @@
 use Rattle.std.proofs.Common.{◌≡◌, ℕ, suc, ◌≤◌, inl, inr, List, [], ◌∷◌, ◌++◌, drop, length, append-nil, sym, subst, refl, ap, ◌∙◌, Option, Some, None, arith}
 use Rattle.lalrpop_grammar.proofs.Types.{NonterminalString, Production, Symbol, TerminalString, Token}
 use Rattle.lalrpop_grammar.specs.declared.repr.Symbol.TheVariants.{Nonterminal}
-use Rattle.lalrpop_grammar.specs.Words.{as_it_is, symbols_of, IsSentence, IsBeginning, IsOnNoRightSide, IsLive, Contents, AreFaithful, Tree, Leaf, Configuration}
+use Rattle.lalrpop_grammar.specs.Words.{as_it_is, terminal_symbols, IsSentence, IsBeginning, IsOnNoRightSide, IsLive, Contents, AreFaithful, Tree, Leaf, Configuration}
 use Rattle.lalrpop_grammar.specs.Words.{next_token, Move, Goes, Ends, received, goes_on, shifts_or, moves_on, move, Reaches, here, further, begin, Refused}
 use Rattle.lalrpop_grammar.specs.Words.{HasOutcome, stuck, other_end, IsFirstWrong, at_terminal, at_end, IsRightNext}
 use Rattle.lalrpop_grammar.proofs.theory.grammars.Derivations.{Derives-to, Derives-trans, Derives-right}
@@ -52,7 +52,7 @@ module _ (g : List Production) (start : NonterminalString) (states : ℕ → Con
   stack_begins {u} {trees = trees} st = go (stacked_live g start states faithful st)
     where
       go : IsLive g start u → IsBeginning g start (spelled trees)
-      go (inl e) = (Nonterminal start ∷ [], Derives-to (ap (λ ts. symbols_of (spelled ts) ++ Nonterminal start ∷ []) (sym (stacked_empty st e))) as_it_is)
+      go (inl e) = (Nonterminal start ∷ [], Derives-to (ap (λ ts. terminal_symbols (spelled ts) ++ Nonterminal start ∷ []) (sym (stacked_empty st e))) as_it_is)
       go (inr v) = let x = extends v.2 in (drop v.1 (v.0).symbols ++ x.0, Derives-trans x.1 (Derives-right (drop v.1 (v.0).symbols ++ x.0) (stacked_derives st)))
 
   -- a run that halts without a parse has a next token that is not right

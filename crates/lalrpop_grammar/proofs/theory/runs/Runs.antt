@@ -6,12 +6,12 @@ use mathlib.Core.List.{head-eq_of_cons-eq}
 use Rattle.lalrpop_grammar.proofs.Types.{NonterminalString, Production, Symbol, TerminalString, Token}
 use Rattle.lalrpop_grammar.specs.declared.repr.Symbol.TheVariants.{Nonterminal, Terminal}
 use Rattle.lalrpop_grammar.specs.declared.lookahead.token.Token.TheVariants.{Eof, Terminal as TokenOf}
-use Rattle.lalrpop_grammar.specs.Words.{symbols_of, IsBeginning, IsOnNoRightSide, Valid, IsAwaited, Contents, IsRightFor, AreFaithful, Tree, Leaf, Node, no_trees}
+use Rattle.lalrpop_grammar.specs.Words.{terminal_symbols, IsBeginning, IsOnNoRightSide, Valid, IsAwaited, Contents, IsRightFor, AreFaithful, Tree, Leaf, Node, no_trees}
 use Rattle.lalrpop_grammar.specs.Words.{beside, root, leaves, nodes, AreOfGrammar, IsParseTree, Configuration, next_token, reduction_on, Move, Stands, Goes, Ends}
 use Rattle.lalrpop_grammar.specs.Words.{reduced, goes_on, received, reduces, shifts_or, moves_on, move, Reaches, here, further, begin, Parsed, HasOutcome, parsed}
 use Rattle.lalrpop_grammar.specs.states.States.{Reduction}
 use Rattle.lalrpop_collections.proofs.theory.lists.Lists.{take_all, same_some, some≢none}
-use Rattle.lalrpop_grammar.proofs.theory.grammars.SymbolLists.{symbols_of-append}
+use Rattle.lalrpop_grammar.proofs.theory.grammars.SymbolLists.{terminal_symbols-append}
 use Rattle.lalrpop_grammar.proofs.theory.grammars.Derivations.{Derives-to, Derives-trans, Derives-right}
 use Rattle.lalrpop_grammar.proofs.theory.closures.Valid.{Unshifted, unshifted, of_grammar, at_the_start, extends}
 use Rattle.lalrpop_grammar.proofs.theory.runs.Steps.{HoldsBy, reduced_is, IsGoing, IsEnding, same_goes, same_ends, together, ends_halts}
@@ -202,6 +202,6 @@ module _ (g : List Production) (start : NonterminalString) (states : ℕ → Con
       let a : IsAwaited g start tr.prefix (Terminal t) = (edges_awaited r.contents (Terminal t)).0 (n, h) in
       let x = extends a.valid in (
         a.after ++ x.0,
-        Derives-to (ap (λ l. symbols_of (spelled c.trees) ++ (l ++ x.0)) a.behind ∙ sym (append_assoc (symbols_of (spelled c.trees)) (Terminal t ∷ []) (a.after ++ x.0)) ∙ ap (λ l. l ++ (a.after ++ x.0)) (sym (symbols_of-append (spelled c.trees) (t ∷ []))))
+        Derives-to (ap (λ l. terminal_symbols (spelled c.trees) ++ (l ++ x.0)) a.behind ∙ sym (append_assoc (terminal_symbols (spelled c.trees)) (Terminal t ∷ []) (a.after ++ x.0)) ∙ ap (λ l. l ++ (a.after ++ x.0)) (sym (terminal_symbols-append (spelled c.trees) (t ∷ []))))
             (Derives-trans x.1 (Derives-right (drop a.dot a.production.symbols ++ x.0) (stacked_derives tr.stack))),
       )

@@ -2,10 +2,10 @@
 -- of the trees. A reduction takes its trees off the stack.
 use Rattle.std.proofs.Common.{◌≡◌, ℕ, inl, List, [], ◌∷◌, ◌++◌, drop, length, append_assoc, append-nil, sym, subst, refl, ap, ap₂, ◌∙◌, Some}
 use Rattle.lalrpop_grammar.proofs.Types.{NonterminalString, Production, Symbol, TerminalString}
-use Rattle.lalrpop_grammar.specs.Words.{Derives, as_it_is, symbols_of, IsLive, Contents, leads, state_after, AreFaithful, Tree, Leaf, Node, Trees, no_trees}
+use Rattle.lalrpop_grammar.specs.Words.{Derives, as_it_is, terminal_symbols, IsLive, Contents, leads, state_after, AreFaithful, Tree, Leaf, Node, Trees, no_trees}
 use Rattle.lalrpop_grammar.specs.Words.{beside, root, roots, leaves, AreOfGrammar}
 use Rattle.lalrpop_collections.proofs.theory.lists.Lists.{Ended, nothing, last, ended, same_last, nil≢more, length-more}
-use Rattle.lalrpop_grammar.proofs.theory.grammars.SymbolLists.{symbols_of-append}
+use Rattle.lalrpop_grammar.proofs.theory.grammars.SymbolLists.{terminal_symbols-append}
 use Rattle.lalrpop_grammar.proofs.theory.grammars.Derivations.{Derives-to, Derives-append}
 use Rattle.lalrpop_grammar.proofs.theory.closures.Valid.{awaited_live}
 use Rattle.lalrpop_grammar.proofs.theory.runs.Steps.{onto, state_from-more}
@@ -56,10 +56,10 @@ stacked_after bottom = refl
 stacked_after {states = states} (above {u} t n st h of) = state_from-more states 0 u (root t) (stacked_after st) h
 
 -- the prefix derives the leaves of the trees
-pub stacked_derives : {g : List Production} {states : ℕ → Contents} {u : List Symbol} {s : ℕ} {below : List ℕ} {trees : List Tree} → Stacked g states u s below trees → Derives g u (symbols_of (spelled trees))
+pub stacked_derives : {g : List Production} {states : ℕ → Contents} {u : List Symbol} {s : ℕ} {below : List ℕ} {trees : List Tree} → Stacked g states u s below trees → Derives g u (terminal_symbols (spelled trees))
 stacked_derives bottom = as_it_is
 stacked_derives (above {trees = trees} t n st h of) =
-    Derives-to (sym (symbols_of-append (spelled trees) (leaves (beside t no_trees)))) (Derives-append (stacked_derives st) (roots_derive (beside t no_trees) of))
+    Derives-to (sym (terminal_symbols-append (spelled trees) (leaves (beside t no_trees)))) (Derives-append (stacked_derives st) (roots_derive (beside t no_trees) of))
 
 -- a stack for the empty prefix has no trees
 pub stacked_empty : {g : List Production} {states : ℕ → Contents} {u : List Symbol} {s : ℕ} {below : List ℕ} {trees : List Tree} → Stacked g states u s below trees → u ≡ [] → trees ≡ []

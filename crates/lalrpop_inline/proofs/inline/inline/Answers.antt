@@ -15,8 +15,8 @@ loop-name-init c =
       view = refl;
       terminals = refl;
       algorithm = refl;
-      stage = first_stage c.args.grammar order c.in_ok-order.ensures.rising c.requires is;
-      mentioned = first_mentioned c.args.grammar order c.in_ok-order.ensures.rising c.requires is;
+      stage = first_stage c.args.grammar order c.len-names.ensures.ordered c.requires is;
+      mentioned = first_mentioned c.args.grammar order c.len-names.ensures.ordered c.requires is;
     }
 
 pub inline_nonterminal-requires : goal.inline_nonterminal-requires
@@ -67,31 +67,31 @@ returns-clause-inlined c =
 pub returns-clause-well_formed : goal.returns-clause-well_formed
 returns-clause-well_formed c =
     let order : List NonterminalString = c.deref-name-items.result.now in
-    inlined_well_formed c.args.grammar c.loop-name.inlined order c.in_ok-order.ensures.rising c.requires (subst (IsInlineOrder c.args.grammar) (sym c.deref-name-items.ensures.value) c.in_ok-order.ensures.order)
+    inlined_well_formed c.args.grammar c.loop-name.inlined order c.len-names.ensures.ordered c.requires (subst (IsInlineOrder c.args.grammar) (sym c.deref-name-items.ensures.value) c.in_ok-order.ensures.order)
     (all_inlined order c.loop-name.name-index (view_of c.loop-name.inlined) (inlined_by order (view_of c.args.grammar)) (omega (arith, c.loop-name-test.false)) c.loop-name.invariant.view) c.loop-name.invariant.terminals
 
 pub returns-clause-unmentioned : goal.returns-clause-unmentioned
 returns-clause-unmentioned c =
     let order : List NonterminalString = c.deref-name-items.result.now in
-    inlined_unmentioned c.args.grammar c.loop-name.inlined order c.in_ok-order.ensures.rising c.requires (subst (IsInlineOrder c.args.grammar) (sym c.deref-name-items.ensures.value) c.in_ok-order.ensures.order)
+    inlined_unmentioned c.args.grammar c.loop-name.inlined order c.len-names.ensures.ordered c.requires (subst (IsInlineOrder c.args.grammar) (sym c.deref-name-items.ensures.value) c.in_ok-order.ensures.order)
     (all_inlined order c.loop-name.name-index (view_of c.loop-name.inlined) (inlined_by order (view_of c.args.grammar)) (omega (arith, c.loop-name-test.false)) c.loop-name.invariant.view) c.loop-name.invariant.terminals
 
 pub returns-clause-terminal_lists : goal.returns-clause-terminal_lists
 returns-clause-terminal_lists c =
     let order : List NonterminalString = c.deref-name-items.result.now in
-    inlined_lists c.args.grammar c.loop-name.inlined order c.in_ok-order.ensures.rising c.requires (subst (IsInlineOrder c.args.grammar) (sym c.deref-name-items.ensures.value) c.in_ok-order.ensures.order)
+    inlined_lists c.args.grammar c.loop-name.inlined order c.len-names.ensures.ordered c.requires (subst (IsInlineOrder c.args.grammar) (sym c.deref-name-items.ensures.value) c.in_ok-order.ensures.order)
     (all_inlined order c.loop-name.name-index (view_of c.loop-name.inlined) (inlined_by order (view_of c.args.grammar)) (omega (arith, c.loop-name-test.false)) c.loop-name.invariant.view) c.loop-name.invariant.terminals
 
 pub returns-clause-kept : goal.returns-clause-kept
 returns-clause-kept c =
     let order : List NonterminalString = c.deref-name-items.result.now in
-    inlined_kept c.args.grammar c.loop-name.inlined order c.in_ok-order.ensures.rising c.requires (subst (IsInlineOrder c.args.grammar) (sym c.deref-name-items.ensures.value) c.in_ok-order.ensures.order)
+    inlined_kept c.args.grammar c.loop-name.inlined order c.len-names.ensures.ordered c.requires (subst (IsInlineOrder c.args.grammar) (sym c.deref-name-items.ensures.value) c.in_ok-order.ensures.order)
     (all_inlined order c.loop-name.name-index (view_of c.loop-name.inlined) (inlined_by order (view_of c.args.grammar)) (omega (arith, c.loop-name-test.false)) c.loop-name.invariant.view) c.loop-name.invariant.terminals
 
 pub returns-clause-laid_out : goal.returns-clause-laid_out
 returns-clause-laid_out c =
     let order : List NonterminalString = c.deref-name-items.result.now in
-    inlined_laid_out c.args.grammar c.loop-name.inlined order c.in_ok-order.ensures.rising c.requires (subst (IsInlineOrder c.args.grammar) (sym c.deref-name-items.ensures.value) c.in_ok-order.ensures.order)
+    inlined_laid_out c.args.grammar c.loop-name.inlined order c.len-names.ensures.ordered c.requires (subst (IsInlineOrder c.args.grammar) (sym c.deref-name-items.ensures.value) c.in_ok-order.ensures.order)
     (all_inlined order c.loop-name.name-index (view_of c.loop-name.inlined) (inlined_by order (view_of c.args.grammar)) (omega (arith, c.loop-name-test.false)) c.loop-name.invariant.view)
 
 pub returns-in_err-inlined-clause-met : goal.returns-in_err-inlined-clause-met

@@ -2,37 +2,37 @@
 use Rattle.std.proofs.Common.{◌≡◌, List, [], ◌∷◌, ◌++◌, refl, sym, ◌∙◌, ap, ap₂, append_assoc, append-nil}
 use Rattle.std.specs.List.{flat_map}
 use Rattle.lalrpop_grammar.specs.declared.repr.inlined.InlinedSymbol.{InlinedSymbol}
-use Rattle.lalrpop_inline.specs.Words.{behind, completed, extended, followed}
+use Rattle.lalrpop_inline.specs.Words.{prefixed, completed, extended, followed}
 
 -- each choice after each part
 abbrev pub with_parts : List InlinedSymbol → List (List InlinedSymbol) → List (List InlinedSymbol)
-with_parts ps cs = flat_map (λ (part : InlinedSymbol). behind (part ∷ []) cs) ps
+with_parts ps cs = flat_map (λ (part : InlinedSymbol). prefixed (part ∷ []) cs) ps
 
 -- choices after parts and one more are choices after that one, after the parts
-pub behind_part : (chosen : List InlinedSymbol) (part : InlinedSymbol) (cs : List (List InlinedSymbol)) → behind (chosen ++ part ∷ []) cs ≡ behind chosen (behind (part ∷ []) cs)
+pub behind_part : (chosen : List InlinedSymbol) (part : InlinedSymbol) (cs : List (List InlinedSymbol)) → prefixed (chosen ++ part ∷ []) cs ≡ prefixed chosen (prefixed (part ∷ []) cs)
 behind_part chosen part [] = refl
 behind_part chosen part (c ∷ cs) = ap₂ (λ (x : List InlinedSymbol) (xs : List (List InlinedSymbol)). x ∷ xs) (append_assoc chosen (part ∷ []) c) (behind_part chosen part cs)
 
-pub behind-append : (chosen : List InlinedSymbol) (cs ds : List (List InlinedSymbol)) → behind chosen (cs ++ ds) ≡ behind chosen cs ++ behind chosen ds
-behind-append chosen [] ds = refl
-behind-append chosen (c ∷ cs) ds = ap (λ (xs : List (List InlinedSymbol)). (chosen ++ c) ∷ xs) (behind-append chosen cs ds)
+pub prefixed-append : (chosen : List InlinedSymbol) (cs ds : List (List InlinedSymbol)) → prefixed chosen (cs ++ ds) ≡ prefixed chosen cs ++ prefixed chosen ds
+prefixed-append chosen [] ds = refl
+prefixed-append chosen (c ∷ cs) ds = ap (λ (xs : List (List InlinedSymbol)). (chosen ++ c) ∷ xs) (prefixed-append chosen cs ds)
 
 -- choices after no part stay
-pub behind-nil : (cs : List (List InlinedSymbol)) → behind [] cs ≡ cs
-behind-nil [] = refl
-behind-nil (c ∷ cs) = ap (λ (xs : List (List InlinedSymbol)). c ∷ xs) (behind-nil cs)
+pub prefixed-nil : (cs : List (List InlinedSymbol)) → prefixed [] cs ≡ cs
+prefixed-nil [] = refl
+prefixed-nil (c ∷ cs) = ap (λ (xs : List (List InlinedSymbol)). c ∷ xs) (prefixed-nil cs)
 
 -- the completion of two lists of fronts is that of the first and that of the second
 pub completed-append : (fronts more cs : List (List InlinedSymbol)) → completed (fronts ++ more) cs ≡ completed fronts cs ++ completed more cs
 completed-append [] more cs = refl
-completed-append (front ∷ fronts) more cs = ap (λ (xs : List (List InlinedSymbol)). behind front cs ++ xs) (completed-append fronts more cs) ∙ sym (append_assoc (behind front cs) (completed fronts cs) (completed more cs))
+completed-append (front ∷ fronts) more cs = ap (λ (xs : List (List InlinedSymbol)). prefixed front cs ++ xs) (completed-append fronts more cs) ∙ sym (append_assoc (prefixed front cs) (completed fronts cs) (completed more cs))
 
 -- the completion of a front that is followed by parts
-followed_by : (front : List InlinedSymbol) (ps : List InlinedSymbol) (cs : List (List InlinedSymbol)) → completed (followed front ps) cs ≡ behind front (with_parts ps cs)
+followed_by : (front : List InlinedSymbol) (ps : List InlinedSymbol) (cs : List (List InlinedSymbol)) → completed (followed front ps) cs ≡ prefixed front (with_parts ps cs)
 followed_by front [] cs = refl
 followed_by front (p ∷ ps) cs =
     ap₂ (λ (x y : List (List InlinedSymbol)). x ++ y) (behind_part front p cs) (followed_by front ps cs)
-    ∙ sym (behind-append front (behind (p ∷ []) cs) (with_parts ps cs))
+    ∙ sym (prefixed-append front (prefixed (p ∷ []) cs) (with_parts ps cs))
 
 -- the completion of fronts that are extended by parts
 pub completed_step : (fronts : List (List InlinedSymbol)) (ps : List InlinedSymbol) (cs : List (List InlinedSymbol)) → completed (extended ps fronts) cs ≡ completed fronts (with_parts ps cs)
@@ -48,4 +48,4 @@ completed-nil (front ∷ fronts) = ap₂ (λ (x : List InlinedSymbol) (xs : List
 
 -- the completion of no parts is the choices
 pub completed-one : (cs : List (List InlinedSymbol)) → completed ([] ∷ []) cs ≡ cs
-completed-one cs = append-nil (behind [] cs) ∙ behind-nil cs
+completed-one cs = append-nil (prefixed [] cs) ∙ prefixed-nil cs

@@ -11,7 +11,7 @@ use Rattle.lalrpop_grammar.specs.declared.repr.inlined.InlinedSymbol.TheVariants
 use Rattle.lalrpop_grammar.specs.declared.repr.grammar.ActionFnDefn.{ActionFnDefn}
 use Rattle.lalrpop_collections.proofs.theory.lists.Lists.{contains-cons, contains-nil, contains_head, contains_tail}
 use Rattle.lalrpop_inline.specs.Words.{is_named, mentions, inlined, choices, is_fallible, is_fallible_part, fallible_of, choice_defn, choice_production, Made}
-use Rattle.lalrpop_inline.specs.Words.{made_of, chosen, replaced, replaced_all, Entry, View, productions_in, replaced_entries, IsLaidOut}
+use Rattle.lalrpop_inline.specs.Words.{made_of, chosen, replaced, replaced_all, Entry, View, productions_of_view, replaced_entries, IsLaidOut}
 use Rattle.lalrpop_inline.proofs.theory.inlining.InlineForests.{first_part, which_part}
 use Rattle.lalrpop_inline.proofs.theory.inlining.InlineSteps.{IsMore, more_longer, chosen_more, replaced_more, replaced_all_more, replaced_entries_more}
 
@@ -142,13 +142,13 @@ module _ (b : NonterminalString) (alternatives : List Production) (old : ℕ) (f
 
   -- each production of the entries was there before, or is laid out
   pub entries_laid_out : (es : List (NonterminalString × Entry)) (defns : List ActionFnDefn) → old ≤ length defns → ((e : NonterminalString × Entry) (p : Production) → Contains es e → Contains e.1.productions p → p.action.0 < old)
-      → (q : Production) → Contains (productions_in (replaced_entries b alternatives es defns)) q → Contains (flat_map (λ (e : NonterminalString × Entry). e.1.productions) es) q ⊎ IsLaidOut (replaced_entries b alternatives es defns).defns q
+      → (q : Production) → Contains (productions_of_view (replaced_entries b alternatives es defns)) q → Contains (flat_map (λ (e : NonterminalString × Entry). e.1.productions) es) q ⊎ IsLaidOut (replaced_entries b alternatives es defns).defns q
   entries_laid_out [] defns l below q k = absurd (contains-nil k)
   entries_laid_out (e ∷ es) defns l below q k =
       let r : Made = replaced_all b alternatives e.1.productions defns in
       let rest : View = replaced_entries b alternatives es r.defns in
       let grows : length defns ≤ length r.defns = more_longer defns r.defns (replaced_all_more b alternatives e.1.productions defns) in
-      elim (Contains-append_cases r.productions (productions_in rest) q k) [
+      elim (Contains-append_cases r.productions (productions_of_view rest) q k) [
         | inl h ↦ elim (replaced_all_laid_out e.1.productions defns l (λ p c. below e p (contains_head e es) c) q h) [
           | inl c ↦ inl (Contains-append_left e.1.productions (flat_map (λ (x : NonterminalString × Entry). x.1.productions) es) q c)
           | inr is ↦ inr (laid_out_more r.defns rest.defns (replaced_entries_more b alternatives es r.defns) q is.1 is.0)

@@ -8,12 +8,12 @@ use Rattle.lalrpop_inline.proofs.Types.{NonterminalString, Production, Symbol, T
 use Rattle.lalrpop_grammar.specs.declared.repr.Symbol.TheVariants.{Nonterminal}
 use Rattle.lalrpop_grammar.specs.declared.repr.inlined.InlinedSymbol.{InlinedSymbol}
 use Rattle.lalrpop_grammar.specs.declared.repr.inlined.InlinedSymbol.TheVariants.{Original}
-use Rattle.lalrpop_base.specs.Words.{Derives, as_it_is, replace, symbols_of, IsSentence}
+use Rattle.lalrpop_base.specs.Words.{Derives, as_it_is, replace, terminal_symbols, IsSentence}
 use Rattle.lalrpop_collections.proofs.theory.lists.Lists.{contains-cons, contains-nil, contains_head, contains_of_map, contains_map}
 use Rattle.lalrpop_grammar.proofs.theory.grammars.SymbolLists.{same_nonterminal, terminal_parts}
 use Rattle.lalrpop_grammar.proofs.theory.grammars.Derivations.{Derives-from, Derives-to, Derives-trans, Derives-left, Derives-right, Derives-append, Derives-production}
 use Rattle.lalrpop_grammar.proofs.theory.grammars.Forests.{Forest, empty, leaf, node, Forest-from, Forest-append, forest_derives, derives_forest}
-use Rattle.lalrpop_inline.specs.Words.{is_named, inlined, behind, parts, choices, laid_out}
+use Rattle.lalrpop_inline.specs.Words.{is_named, inlined, prefixed, parts, choices, laid_out}
 use Rattle.lalrpop_inline.proofs.theory.inlining.InlineMembers.{named_exactly}
 use Rattle.lalrpop_collections.proofs.theory.lists.Members.{of_flat}
 use Rattle.lalrpop_collections.proofs.theory.lists.Bounded.{in_flat_map}
@@ -22,7 +22,7 @@ module _ (b : NonterminalString) (alternatives : List Production) where
   -- a part and a choice for the rest are a choice
   pub choice_cons : (x : Symbol) (l : List Symbol) (part : InlinedSymbol) (c : List InlinedSymbol) → Contains (parts b alternatives x) part → Contains (choices b alternatives l) c → Contains (choices b alternatives (x ∷ l)) (part ∷ c)
   choice_cons x l part c h k =
-      in_flat_map (λ (p : InlinedSymbol). behind (p ∷ []) (choices b alternatives l)) (parts b alternatives x) part (part ∷ c) h (contains_map (λ (d : List InlinedSymbol). (part ∷ []) ++ d) (choices b alternatives l) c k)
+      in_flat_map (λ (p : InlinedSymbol). prefixed (p ∷ []) (choices b alternatives l)) (parts b alternatives x) part (part ∷ c) h (contains_map (λ (d : List InlinedSymbol). (part ∷ []) ++ d) (choices b alternatives l) c k)
 
   -- a choice for a list that is not empty, as a part and a choice for the rest
   pub record FirstPart (x : Symbol) (l : List Symbol) (c : List InlinedSymbol) : Type 0 where
@@ -35,7 +35,7 @@ module _ (b : NonterminalString) (alternatives : List Production) where
   -- each choice for a list that is not empty is such a one
   pub first_part : (x : Symbol) (l : List Symbol) (c : List InlinedSymbol) → Contains (choices b alternatives (x ∷ l)) c → FirstPart x l c
   first_part x l c h =
-      let r = of_flat (λ (p : InlinedSymbol). behind (p ∷ []) (choices b alternatives l)) (parts b alternatives x) c h in
+      let r = of_flat (λ (p : InlinedSymbol). prefixed (p ∷ []) (choices b alternatives l)) (parts b alternatives x) c h in
       let s = contains_of_map (λ (d : List InlinedSymbol). (r.0 ∷ []) ++ d) (choices b alternatives l) c r.2 in
       record { part = r.0; rest = s.0; joined = s.2; among = r.1; others = s.1 }
 
@@ -94,7 +94,7 @@ module _ (b : NonterminalString) (alternatives : List Production) where
       pub among : Contains (choices b alternatives l) choice
       pub forest : Forest h (laid_out choice) m
 
-    collapsed : {l m : List Symbol} (w : List TerminalString) → Forest h l m → m ≡ symbols_of w → Collapsed l m
+    collapsed : {l m : List Symbol} (w : List TerminalString) → Forest h l m → m ≡ terminal_symbols w → Collapsed l m
     collapsed w empty e = record { choice = []; among = contains_head [] []; forest = empty }
     collapsed [] (leaf x f) e = absurd (cons≢nil e)
     collapsed (t ∷ w) (leaf x {l} {n} f) e =
@@ -113,7 +113,7 @@ module _ (b : NonterminalString) (alternatives : List Production) where
         ]
 
     -- the new productions derive the terminals that the old ones derive
-    forest_new : {l m : List Symbol} (w : List TerminalString) → Forest g l m → m ≡ symbols_of w → Forest h l m
+    forest_new : {l m : List Symbol} (w : List TerminalString) → Forest g l m → m ≡ terminal_symbols w → Forest h l m
     forest_new w empty e = empty
     forest_new [] (leaf x f) e = absurd (cons≢nil e)
     forest_new (t ∷ w) (leaf x f) e = leaf x (forest_new w f (tail-eq_of_cons-eq e))

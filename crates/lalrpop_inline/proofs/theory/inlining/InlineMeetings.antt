@@ -11,7 +11,7 @@ use Rattle.lalrpop_grammar.specs.declared.repr.norm_error.NormError.TheVariants.
 use Rattle.lalrpop_inline.proofs.Types.{Grammar, NonterminalData, NonterminalString}
 use Rattle.lalrpop_inline.specs.declared.inline.graph.depth_first.Frame.{Frame}
 use Rattle.lalrpop_inline.specs.declared.inline.graph.depth_first.Walk.{Walk}
-use Rattle.lalrpop_inline.specs.Words.{IsPastLast, IsWalk, names_on, AreMarkedAmong, ComesBack, ComesBackFrom, GoesPast, IsEntered, IsInside, IsNewest, IsPassed, LeadsBack, Leaves, NamesBy, through, here, inside, later, mentions_back, no_more, past_over, passing}
+use Rattle.lalrpop_inline.specs.Words.{IsPastLast, IsWalk, names_on, AreMarkedAmong, ComesBack, ComesBackFrom, GoesPast, IsEntered, IsInside, IsNewest, IsPassed, ComesBackToAllOf, Leaves, NamesBy, through, here, inside, later, mentions_back, no_more, past_over, passing}
 use Rattle.lalrpop_inline.proofs.theory.inlining.InlineFrames.{marked_left}
 
 -- the last one of a list is the first one of the reversed list
@@ -75,7 +75,7 @@ module _ (g : Grammar) where
 
   -- a frame enters the next nonterminal
   pub back_into : (f on : Frame) (older gs : List Frame) (a : NonterminalString) (left : List NonterminalString) → on.name ≡ f.name → IsNewest g a (on ∷ older) gs → IsEntered g (f.name ∷ names_on older) left a
-      → GoesPast g (f.name ∷ names_on older) left (reverse f.others.items) (a ∷ reverse on.others.items) → LeadsBack g (f ∷ older) left gs left
+      → GoesPast g (f.name ∷ names_on older) left (reverse f.others.items) (a ∷ reverse on.others.items) → ComesBackToAllOf g (f ∷ older) left gs left
   back_into f on older gs a left same (x, pushed, named, all) is past rest b h = go (subst (λ (l : List Frame). ComesBackFrom g rest l left b) pushed h)
     where
       path : List NonterminalString
@@ -131,7 +131,7 @@ module _ (g : Grammar) where
 
   -- a frame with none to be visited is left
   pub back_out : (f on : Frame) (older : List Frame) (left after : List NonterminalString) → on.name ≡ f.name → on.others.items ≡ [] → after ≡ left ++ on.name ∷ [] → GoesPast g (f.name ∷ names_on older) left (reverse f.others.items) (reverse on.others.items)
-      → LeadsBack g (f ∷ older) left older after
+      → ComesBackToAllOf g (f ∷ older) left older after
   back_out f on older left after same none grown past rest b h =
       inr (
         left,

@@ -20,7 +20,7 @@ use Rattle.lalrpop_grammar.specs.declared.repr.grammar.Attribute.{Attribute}
 use Rattle.lalrpop_grammar.specs.declared.repr.grammar.ActionFnDefn.{ActionFnDefn}
 use Rattle.lalrpop_grammar.specs.declared.repr.norm_error.NormError.{NormError}
 use Rattle.lalrpop_collections.proofs.theory.lists.Lists.{contains-cons, contains-nil, contains_head, contains_tail}
-use Rattle.lalrpop_inline.specs.Words.{choices, mentions, Made, made_of, in_front, replaced, replaced_all, Entry, View, entry_view, entry_with, replaced_entries}
+use Rattle.lalrpop_inline.specs.Words.{choices, mentions, Made, made_of, in_front, replaced, replaced_all, Entry, View, named_entry, entry_with, replaced_entries}
 use Rattle.lalrpop_inline.specs.Words.{IsEntryReplaced, IsPastLast, first_replaced, replaced_at, replaced_places}
 use Rattle.lalrpop_inline.specs.inlining.InlineSteps.{chosen, entry_in_front, view_with}
 use Rattle.lalrpop_inline.proofs.theory.inlining.InlineSteps.{IsMore, more_none, more_twice, more_longer, past_more, replaced_all_more}
@@ -104,52 +104,52 @@ module _ (b : NonterminalString) (alternatives : List Production) where
 
   -- the entry at a place was replaced
   pub place_replaced : (a : NonterminalString) (es : List (NonterminalString × NonterminalData)) (old new : NonterminalData) (defns more : List ActionFnDefn) → lookup (is_at (name_cmp a)) es ≡ Some old → IsEntryReplaced b alternatives old defns new more →
-      view_with (set_value (is_at (name_cmp a)) es new) more ≡ replaced_at b alternatives a (map entry_view es) defns
+      view_with (set_value (is_at (name_cmp a)) es new) more ≡ replaced_at b alternatives a (map named_entry es) defns
   place_replaced a [] old new defns more found step = cc
   place_replaced a (e ∷ es) old new defns more found step =
       by (is_at (name_cmp a) e.0) found (place_replaced a es old new defns more)
     where
       by : (at : Bool) → cond at (Some e.1) (lookup (is_at (name_cmp a)) es) ≡ Some old
-          → (lookup (is_at (name_cmp a)) es ≡ Some old → IsEntryReplaced b alternatives old defns new more → view_with (set_value (is_at (name_cmp a)) es new) more ≡ replaced_at b alternatives a (map entry_view es) defns)
+          → (lookup (is_at (name_cmp a)) es ≡ Some old → IsEntryReplaced b alternatives old defns new more → view_with (set_value (is_at (name_cmp a)) es new) more ≡ replaced_at b alternatives a (map named_entry es) defns)
           → view_with (cond at ((e.0, new) ∷ es) (e ∷ set_value (is_at (name_cmp a)) es new)) more
           ≡ cond at
-          (first_replaced b alternatives (entry_view e) (map entry_view es) defns)
-          (entry_in_front (entry_view e) (replaced_at b alternatives a (map entry_view es) defns))
+          (first_replaced b alternatives (named_entry e) (map named_entry es) defns)
+          (entry_in_front (named_entry e) (replaced_at b alternatives a (map named_entry es) defns))
       by true is rest =
           let same : old ≡ e.1 = cc in
           let r : Made = replaced_all b alternatives old.productions.items defns in
-          ap (λ (m : Made). view_made ((e.0, entry_of m.productions new.attributes.items new.span) ∷ map entry_view es) m.defns) step.productions
-          ∙ ap₂ (λ (marks : List Attribute) (s : Span). view_made ((e.0, entry_of r.productions marks s) ∷ map entry_view es) r.defns) step.attributes step.span
-          ∙ ap (λ (d : NonterminalData). view_made ((e.0, entry_of (replaced_all b alternatives d.productions.items defns).productions d.attributes.items d.span) ∷ map entry_view es) (replaced_all b alternatives d.productions.items defns).defns) same
-      by false is rest = ap (entry_in_front (entry_view e)) (rest is step)
+          ap (λ (m : Made). view_made ((e.0, entry_of m.productions new.attributes.items new.span) ∷ map named_entry es) m.defns) step.productions
+          ∙ ap₂ (λ (marks : List Attribute) (s : Span). view_made ((e.0, entry_of r.productions marks s) ∷ map named_entry es) r.defns) step.attributes step.span
+          ∙ ap (λ (d : NonterminalData). view_made ((e.0, entry_of (replaced_all b alternatives d.productions.items defns).productions d.attributes.items d.span) ∷ map named_entry es) (replaced_all b alternatives d.productions.items defns).defns) same
+      by false is rest = ap (entry_in_front (named_entry e)) (rest is step)
 
   -- the definitions are those that the entry at a place makes
-  pub place_definitions : (a : NonterminalString) (es : List (NonterminalString × NonterminalData)) (old : NonterminalData) (defns : List ActionFnDefn) → lookup (is_at (name_cmp a)) es ≡ Some old → (replaced_all b alternatives old.productions.items defns).defns ≡ (replaced_at b alternatives a (map entry_view es) defns).defns
+  pub place_definitions : (a : NonterminalString) (es : List (NonterminalString × NonterminalData)) (old : NonterminalData) (defns : List ActionFnDefn) → lookup (is_at (name_cmp a)) es ≡ Some old → (replaced_all b alternatives old.productions.items defns).defns ≡ (replaced_at b alternatives a (map named_entry es) defns).defns
   place_definitions a [] old defns found = cc
   place_definitions a (e ∷ es) old defns found = by (is_at (name_cmp a) e.0) found (place_definitions a es old defns)
     where
       by : (at : Bool) → cond at (Some e.1) (lookup (is_at (name_cmp a)) es) ≡ Some old
-          → (lookup (is_at (name_cmp a)) es ≡ Some old → (replaced_all b alternatives old.productions.items defns).defns ≡ (replaced_at b alternatives a (map entry_view es) defns).defns)
+          → (lookup (is_at (name_cmp a)) es ≡ Some old → (replaced_all b alternatives old.productions.items defns).defns ≡ (replaced_at b alternatives a (map named_entry es) defns).defns)
           → (replaced_all b alternatives old.productions.items defns).defns
           ≡ (cond at
-          (first_replaced b alternatives (entry_view e) (map entry_view es) defns)
-          (entry_in_front (entry_view e) (replaced_at b alternatives a (map entry_view es) defns))).defns
+          (first_replaced b alternatives (named_entry e) (map named_entry es) defns)
+          (entry_in_front (named_entry e) (replaced_at b alternatives a (map named_entry es) defns))).defns
       by true is rest = let same : old ≡ e.1 = cc in ap (λ (d : NonterminalData). (replaced_all b alternatives d.productions.items defns).defns) same
       by false is rest = rest is
 
   -- nothing is replaced at a place without an entry
-  pub place_empty : (a : NonterminalString) (es : List (NonterminalString × NonterminalData)) (defns : List ActionFnDefn) → lookup (is_at (name_cmp a)) es ≡ None → view_with es defns ≡ replaced_at b alternatives a (map entry_view es) defns
+  pub place_empty : (a : NonterminalString) (es : List (NonterminalString × NonterminalData)) (defns : List ActionFnDefn) → lookup (is_at (name_cmp a)) es ≡ None → view_with es defns ≡ replaced_at b alternatives a (map named_entry es) defns
   place_empty a [] defns missing = refl
   place_empty a (e ∷ es) defns missing = by (is_at (name_cmp a) e.0) missing (place_empty a es defns)
     where
       by : (at : Bool) → cond at (Some e.1) (lookup (is_at (name_cmp a)) es) ≡ None
-          → (lookup (is_at (name_cmp a)) es ≡ None → view_with es defns ≡ replaced_at b alternatives a (map entry_view es) defns)
+          → (lookup (is_at (name_cmp a)) es ≡ None → view_with es defns ≡ replaced_at b alternatives a (map named_entry es) defns)
           → view_with (e ∷ es) defns
           ≡ cond at
-          (first_replaced b alternatives (entry_view e) (map entry_view es) defns)
-          (entry_in_front (entry_view e) (replaced_at b alternatives a (map entry_view es) defns))
+          (first_replaced b alternatives (named_entry e) (map named_entry es) defns)
+          (entry_in_front (named_entry e) (replaced_at b alternatives a (map named_entry es) defns))
       by true is rest = cc
-      by false is rest = ap (entry_in_front (entry_view e)) (rest is)
+      by false is rest = ap (entry_in_front (named_entry e)) (rest is)
 
   -- without an entry at a place nothing is replaced
   place_missing : (a : NonterminalString) (es : List (NonterminalString × Entry)) (defns : List ActionFnDefn) → AllByRecursion (λ k. is_at (name_cmp a) k ≡ false) (keys_of es) → replaced_at b alternatives a es defns ≡ view_made es defns

@@ -12,7 +12,7 @@ use Rattle.lalrpop_base.specs.Words.{IsSentence, name_cmp, IsWellFormed, IsWellF
 use Rattle.lalrpop_inline.proofs.Types.{Grammar, NonterminalData, NonterminalString, Production, TerminalString}
 use Rattle.lalrpop_grammar.specs.declared.repr.Symbol.TheVariants.{Nonterminal}
 use Rattle.lalrpop_collections.proofs.theory.lists.Lists.{contains-cons, contains-nil, contains_head, contains_tail, contains_place, place_contains, contains_of_map, contains_map}
-use Rattle.lalrpop_inline.specs.Words.{is_named, mentions, Entry, View, entry_view, view_of, alternatives_in, productions_in, inlined_of, inlined_by, IsMarked}
+use Rattle.lalrpop_inline.specs.Words.{is_named, mentions, Entry, View, named_entry, view_of, alternatives_in, productions_of_view, inlined_of, inlined_by, IsMarked}
 use Rattle.lalrpop_inline.specs.Words.{Mentions, IsInlineOrder, IsPastLast, IsRefusalOf, IsLaidOut}
 use Rattle.std.proofs.lemmas.List.{drop_more}
 use Rattle.lalrpop_grammar.specs.declared.repr.norm_error.NormError.{NormError}
@@ -34,8 +34,8 @@ module _ (Marked : NonterminalString → Type 0) (terminals : List TerminalStrin
   -- these mentions only those before it
   pub record Stage (rest : List NonterminalString) (v : View) : Type 0 where
     pub proper : IsProper terminals v
-    pub behind : (before after : List NonterminalString) (a c : NonterminalString) (p : Production) → rest ≡ before ++ a ∷ after → Contains (productions_in v) p → p.nonterminal ≡ a → Contains p.symbols (Nonterminal c) → Marked c → Contains before c
-    pub mentioned : (c : NonterminalString) (p : Production) → Contains (productions_in v) p → Contains p.symbols (Nonterminal c) → Marked c → Contains rest c
+    pub behind : (before after : List NonterminalString) (a c : NonterminalString) (p : Production) → rest ≡ before ++ a ∷ after → Contains (productions_of_view v) p → p.nonterminal ≡ a → Contains p.symbols (Nonterminal c) → Marked c → Contains before c
+    pub mentioned : (c : NonterminalString) (p : Production) → Contains (productions_of_view v) p → Contains p.symbols (Nonterminal c) → Marked c → Contains rest c
     pub marked : (c : NonterminalString) → Contains rest c → Marked c
 
   -- the next one does not mention itself
@@ -76,7 +76,7 @@ module _ (Marked : NonterminalString → Type 0) (terminals : List TerminalStrin
   last_stage (b ∷ rest) v s = last_stage rest (inlined_of b v) (stage_step b rest v s)
 
   -- every nonterminal keeps its terminal lists
-  pub stages_keep_lists : (rest : List NonterminalString) (v : View) → Stage rest v → (a : NonterminalString) (w : List TerminalString) → IsSentence (productions_in v) a w ↔ IsSentence (productions_in (inlined_by rest v)) a w
+  pub stages_keep_lists : (rest : List NonterminalString) (v : View) → Stage rest v → (a : NonterminalString) (w : List TerminalString) → IsSentence (productions_of_view v) a w ↔ IsSentence (productions_of_view (inlined_by rest v)) a w
   stages_keep_lists [] v s a w = (λ d. d, λ d. d)
   stages_keep_lists (b ∷ rest) v s a w =
       let here = step_keeps_lists terminals v s.proper b (stage_alone b rest v s) a w in
@@ -86,7 +86,7 @@ module _ (Marked : NonterminalString → Type 0) (terminals : List TerminalStrin
 module _ (Marked : NonterminalString → Type 0) (terminals : List TerminalString) (old : ℕ) where
   -- each production with an action from a number on is laid out
   abbrev pub AreLaidOut : View → Type 0
-  AreLaidOut v = (p : Production) → Contains (productions_in v) p → old ≤ p.action.0 → IsLaidOut v.defns p
+  AreLaidOut v = (p : Production) → Contains (productions_of_view v) p → old ≤ p.action.0 → IsLaidOut v.defns p
 
   step_laid_out : (b : NonterminalString) (rest : List NonterminalString) (v : View) → Stage Marked terminals (b ∷ rest) v → old ≤ length v.defns → AreLaidOut v → AreLaidOut (inlined_of b v)
   step_laid_out b rest v s l were p c from =
@@ -109,15 +109,15 @@ module _ (Marked : NonterminalString → Type 0) (terminals : List TerminalStrin
       let more : length v.defns ≤ length (inlined_of b v).defns = more_longer v.defns (inlined_of b v).defns (replaced_entries_more b (alternatives_in v b) v.entries v.defns) in
       stages_laid_out rest (inlined_of b v) (stage_step Marked terminals b rest v s) (omega arith) (step_laid_out b rest v s l were)
 
-flat_view : (es : List (NonterminalString × NonterminalData)) → flat_map (λ (e : NonterminalString × NonterminalData). e.1.productions.items) es ≡ flat_map (λ (e : NonterminalString × Entry). e.1.productions) (map entry_view es)
+flat_view : (es : List (NonterminalString × NonterminalData)) → flat_map (λ (e : NonterminalString × NonterminalData). e.1.productions.items) es ≡ flat_map (λ (e : NonterminalString × Entry). e.1.productions) (map named_entry es)
 flat_view [] = refl
 flat_view (e ∷ es) = ap (λ (ps : List Production). e.1.productions.items ++ ps) (flat_view es)
 
 -- the productions of a grammar are those of its view
-pub productions_view : (g : Grammar) → productions g ≡ productions_in (view_of g)
+pub productions_view : (g : Grammar) → productions g ≡ productions_of_view (view_of g)
 productions_view g = flat_view g.nonterminals.entries
 
-pub keys_view : (es : List (NonterminalString × NonterminalData)) → keys_of (map entry_view es) ≡ keys_of es
+pub keys_view : (es : List (NonterminalString × NonterminalData)) → keys_of (map named_entry es) ≡ keys_of es
 keys_view [] = refl
 keys_view (e ∷ es) = ap (λ (ks : List NonterminalString). e.0 ∷ ks) (keys_view es)
 
@@ -126,7 +126,7 @@ pub proper_view : (g : Grammar) → IsOrdered name_cmp g.nonterminals → IsWell
 proper_view g ordered well = record {
   ordered = subst (IsStrictlySortedBy name_cmp) (sym (keys_view g.nonterminals.entries)) ordered;
   each = λ e c.
-      let r = contains_of_map entry_view g.nonterminals.entries e c in
+      let r = contains_of_map named_entry g.nonterminals.entries e c in
       let at = contains_place g.nonterminals.entries r.0 r.1 in
       let counted : IsWellFormedEntry g.terminals (length g.action_fn_defns.items) (r.0).0 (r.0).1.productions.items =
       subst (λ (n : ℕ). IsWellFormedEntry g.terminals n (r.0).0 (r.0).1.productions.items) g.action_fn_defns.ok.0 (well at.0 (r.0).0 (r.0).1 at.1) in
@@ -137,13 +137,13 @@ proper_view g ordered well = record {
 pub well_formed_view : (h : Grammar) → IsProper h.terminals (view_of h) → IsWellFormed h
 well_formed_view h proper k name entry at =
     subst (λ (n : ℕ). IsWellFormedEntry h.terminals n name entry.productions.items) (sym h.action_fn_defns.ok.0)
-    (proper.each (entry_view (name, entry)) (contains_map entry_view h.nonterminals.entries (name, entry) (place_contains h.nonterminals.entries k (name, entry) at)))
+    (proper.each (named_entry (name, entry)) (contains_map named_entry h.nonterminals.entries (name, entry) (place_contains h.nonterminals.entries k (name, entry) at)))
 
 -- the first stage
 pub first_stage : (g : Grammar) (order : List NonterminalString) → IsOrdered name_cmp g.nonterminals → IsWellFormed g → IsInlineOrder g order → Stage (IsMarked g) g.terminals order (view_of g)
 first_stage g order ordered well is =
     let proper = proper_view g ordered well in
-    let own : (a : NonterminalString) (p : Production) → Contains (productions_in (view_of g)) p → p.nonterminal ≡ a → Contains (productions_of g a) p =
+    let own : (a : NonterminalString) (p : Production) → Contains (productions_of_view (view_of g)) p → p.nonterminal ≡ a → Contains (productions_of g a) p =
     λ a p c n. subst (λ (ps : List Production). Contains ps p) (alternatives_view g a) (alternatives_all g.terminals (view_of g) proper a p c n) in
     record {
       proper = proper;
@@ -167,12 +167,12 @@ module _ (g h : Grammar) (order : List NonterminalString) (ordered : IsOrdered n
   inlined_unmentioned a c marked m =
       let listed = subst (λ (ps : List Production). Contains ps m.0) (sym (alternatives_view h a)) m.1 in
       let (own, named) = alternatives_own h.terminals (view_of h) proper_end a m.0 listed in
-      contains-nil (end.mentioned c m.0 (subst (λ (v : View). Contains (productions_in v) m.0) view own) m.2 marked)
+      contains-nil (end.mentioned c m.0 (subst (λ (v : View). Contains (productions_of_view v) m.0) view own) m.2 marked)
 
   pub inlined_lists : (a : NonterminalString) (w : List TerminalString) → IsSentence (productions g) a w ↔ IsSentence (productions h) a w
   inlined_lists a w =
       let across = stages_keep_lists (IsMarked g) g.terminals order (view_of g) (first_stage g order ordered well is) a w in
-      let back : productions_in (inlined_by order (view_of g)) ≡ productions h = ap productions_in (sym view) ∙ sym (productions_view h) in (
+      let back : productions_of_view (inlined_by order (view_of g)) ≡ productions h = ap productions_of_view (sym view) ∙ sym (productions_view h) in (
         λ d. subst (λ (ps : List Production). IsSentence ps a w) back (across.0 (subst (λ (ps : List Production). IsSentence ps a w) (productions_view g) d)),
         λ d. subst (λ (ps : List Production). IsSentence ps a w) (sym (productions_view g)) (across.1 (subst (λ (ps : List Production). IsSentence ps a w) (sym back) d)),
       )
@@ -191,7 +191,7 @@ inlined_laid_out g h order ordered well is view p c from =
     let few : q.action.0 < length g.action_fn_defns.items = (proper_production g.terminals (view_of g) stage.proper e q there stands).numbered in
     absurd (omega arith) in
     let all = stages_laid_out (IsMarked g) g.terminals (length g.action_fn_defns.items) order (view_of g) stage (omega arith) none in
-    let there : Contains (productions_in (inlined_by order (view_of g))) p = subst (λ (ps : List Production). Contains ps p) (productions_view h ∙ ap productions_in view) c in
+    let there : Contains (productions_of_view (inlined_by order (view_of g))) p = subst (λ (ps : List Production). Contains ps p) (productions_view h ∙ ap productions_of_view view) c in
     subst (λ (v : View). IsLaidOut v.defns p) (sym view) (all p there from)
 
 drop_end : {A : Type 0} (xs : List A) (i : ℕ) → length xs ≤ i → drop i xs ≡ []

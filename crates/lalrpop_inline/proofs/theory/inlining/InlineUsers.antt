@@ -18,18 +18,15 @@ use Rattle.lalrpop_inline.proofs.Types.{Grammar, NonterminalData, NonterminalStr
 use Rattle.lalrpop_grammar.specs.declared.repr.Symbol.TheVariants.{Nonterminal}
 use Rattle.lalrpop_collections.proofs.theory.lists.Lists.{contains-cons, contains-nil, contains_head, contains_tail, contains_place, place_contains, contains_of_map}
 use Rattle.lalrpop_grammar.proofs.theory.grammars.SymbolLists.{same_nonterminal}
-use Rattle.lalrpop_inline.specs.Words.{Entry, View, entry_view, view_of, productions_in, inlined_of, IsMarked, Mentions, IsInlineOrder}
-use Rattle.lalrpop_inline.specs.Words.{listed_names, users_at, KeepsUsers, HasUsers, replaced_places, replaced_entries}
+use Rattle.lalrpop_inline.specs.Words.{Entry, View, named_entry, view_of, productions_of_view, inlined_of, IsMarked, Mentions, IsInlineOrder}
+use Rattle.lalrpop_inline.specs.Words.{listed_names, users_at, KeepsUsers, HasUsersOfMarked, replaced_places, replaced_entries}
 use Rattle.lalrpop_inline.proofs.theory.inlining.InlineMembers.{mentioned_stands}
 use Rattle.lalrpop_inline.proofs.theory.inlining.InlineEntries.{alternatives_view}
 use Rattle.lalrpop_inline.proofs.theory.inlining.InlinePlaces.{AreCovered, all_places}
 use Rattle.lalrpop_inline.proofs.theory.inlining.InlineViews.{alternatives_own, alternatives_all, step_mentions}
 use Rattle.lalrpop_inline.proofs.theory.inlining.InlineStages.{Stage, keys_view, first_stage, stage_alone, stage_step, next_one}
 use Rattle.lalrpop_grammar.proofs.theory.first.FirstNames.{name_same}
-
--- users, by the name that they mention
-abbrev pub UserMap : Type 0
-UserMap = List (NonterminalString × BTreeSet NonterminalString)
+use Rattle.lalrpop_grammar.specs.grammars.Entries.{UserMap}
 
 -- a set that takes a name has it
 inserted_there : (ks : List NonterminalString) (k : NonterminalString) → Contains (insert_key name_cmp ks k) k
@@ -145,7 +142,7 @@ entry_of_mention g a (Some d) p e c =
     (d, subst (λ (x : NonterminalString). Contains g.nonterminals.entries (x, d)) (sym (name_same a k tied)) (place_contains g.nonterminals.entries i (k, d) at), c)
 
 -- all users of a grammar
-pub all_users : (g : Grammar) (users : UserMap) → AreUsersOf g g.nonterminals.entries users → HasUsers g users
+pub all_users : (g : Grammar) (users : UserMap) → AreUsersOf g g.nonterminals.entries users → HasUsersOfMarked g users
 all_users g users are a c marked m =
     let (d, there, stands) = entry_of_mention g a (get name_cmp g.nonterminals a) m.0 refl m.1 in
     are a c d m.0 there marked stands m.2
@@ -153,7 +150,7 @@ all_users g users are a c marked m =
 -- the entries that mention a name are covered by its users
 pub covered_entries : (h : Grammar) (name : NonterminalString) (places : List NonterminalString) → IsOrdered name_cmp h.nonterminals → ((a : NonterminalString) → Mentions h a name → Contains places a) → AreCovered name (view_of h).entries places
 covered_entries h name places ordered covered e p there stands m =
-    let r = contains_of_map entry_view h.nonterminals.entries e there in
+    let r = contains_of_map named_entry h.nonterminals.entries e there in
     let at = contains_place h.nonterminals.entries r.0 r.1 in
     let found : get name_cmp h.nonterminals (r.0).0 ≡ Some (r.0).1 = btree_map_get_place name_order.total-law h.nonterminals at.0 (r.0).0 (r.0).1 ordered at.1 in
     let own : Contains (r.0).1.productions.items p = subst (λ (x : NonterminalString × Entry). Contains x.1.productions p) (sym r.2) stands in
@@ -173,7 +170,7 @@ users_found users name set found = ap listed_names (sym found)
 
 -- what mentions one of the nonterminals that are left mentioned it in the given grammar
 abbrev pub MentionedBefore : Grammar → List NonterminalString → View → Type 0
-MentionedBefore g rest v = (c : NonterminalString) (p : Production) → Contains rest c → Contains (productions_in v) p → Contains p.symbols (Nonterminal c) → Mentions g p.nonterminal c
+MentionedBefore g rest v = (c : NonterminalString) (p : Production) → Contains rest c → Contains (productions_of_view v) p → Contains p.symbols (Nonterminal c) → Mentions g p.nonterminal c
 
 -- this holds at first
 pub first_mentioned : (g : Grammar) (order : List NonterminalString) → IsOrdered name_cmp g.nonterminals → IsWellFormed g → IsInlineOrder g order → MentionedBefore g order (view_of g)

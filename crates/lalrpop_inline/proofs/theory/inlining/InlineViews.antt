@@ -19,8 +19,8 @@ use Rattle.lalrpop_grammar.specs.declared.repr.inlined.InlinedSymbol.{InlinedSym
 use Rattle.lalrpop_grammar.specs.declared.repr.inlined.InlinedSymbol.TheVariants.{Original}
 use Rattle.lalrpop_grammar.specs.declared.repr.grammar.ActionFnDefn.{ActionFnDefn}
 use Rattle.lalrpop_collections.proofs.theory.lists.Lists.{contains-cons, contains-nil, contains_head, contains_tail, contains_place, place_contains}
-use Rattle.lalrpop_inline.specs.Words.{is_named, mentions, choices, part_symbols, laid_out, Made, replaced_all, Entry, View, listed, alternatives_in}
-use Rattle.lalrpop_inline.specs.Words.{productions_in, entry_with, replaced_entries, inlined_of}
+use Rattle.lalrpop_inline.specs.Words.{is_named, mentions, choices, part_symbols, laid_out, Made, replaced_all, Entry, View, productions_of_entry, alternatives_in}
+use Rattle.lalrpop_inline.specs.Words.{productions_of_view, entry_with, replaced_entries, inlined_of}
 use Rattle.lalrpop_inline.proofs.theory.inlining.InlineMembers.{unmentioned}
 use Rattle.lalrpop_inline.proofs.theory.inlining.InlineForests.{first_part, which_part, IsReplaced, same_terminal_lists}
 use Rattle.lalrpop_inline.proofs.theory.inlining.InlineSteps.{more_longer, replaced_all_more, replaced_entries_more}
@@ -36,11 +36,11 @@ pub record IsProper (terminals : List TerminalString) (v : View) : Type 0 where
   pub each : (e : NonterminalString × Entry) → Contains v.entries e → IsWellFormedEntry terminals (length v.defns) e.0 e.1.productions
 
 -- a production of a view is in an entry
-pub listed_entry : (v : View) (p : Production) → Contains (productions_in v) p → (e : NonterminalString × Entry) × Contains v.entries e × Contains e.1.productions p
+pub listed_entry : (v : View) (p : Production) → Contains (productions_of_view v) p → (e : NonterminalString × Entry) × Contains v.entries e × Contains e.1.productions p
 listed_entry v p c = of_flat (λ (e : NonterminalString × Entry). e.1.productions) v.entries p c
 
 -- a production of an entry is one of the view
-pub entry_listed : (v : View) (e : NonterminalString × Entry) (p : Production) → Contains v.entries e → Contains e.1.productions p → Contains (productions_in v) p
+pub entry_listed : (v : View) (e : NonterminalString × Entry) (p : Production) → Contains v.entries e → Contains e.1.productions p → Contains (productions_of_view v) p
 entry_listed v e p c d = in_flat_map (λ (e : NonterminalString × Entry). e.1.productions) v.entries e p c d
 
 module _ (terminals : List TerminalString) (v : View) (proper : IsProper terminals v) where
@@ -48,7 +48,7 @@ module _ (terminals : List TerminalString) (v : View) (proper : IsProper termina
   pub proper_production : (e : NonterminalString × Entry) (p : Production) → Contains v.entries e → Contains e.1.productions p → IsWellFormedProduction terminals (length v.defns) e.0 p
   proper_production e p c d = let at = contains_place e.1.productions p d in (proper.each e c).each at.0 p at.1
 
-  found_own : (b : NonterminalString) (o : Option Entry) (r : Production) → lookup (is_at (name_cmp b)) v.entries ≡ o → Contains (listed o) r → Contains (productions_in v) r × (r.nonterminal ≡ b)
+  found_own : (b : NonterminalString) (o : Option Entry) (r : Production) → lookup (is_at (name_cmp b)) v.entries ≡ o → Contains (productions_of_entry o) r → Contains (productions_of_view v) r × (r.nonterminal ≡ b)
   found_own b None r e c = absurd (contains-nil c)
   found_own b (Some entry) r e c =
       let (i, k, at, tied) = place_from_lookup (is_at (name_cmp b)) v.entries entry e in
@@ -57,17 +57,17 @@ module _ (terminals : List TerminalString) (v : View) (proper : IsProper termina
       (entry_listed v (k, entry) r there c, (proper_production (k, entry) r there c).named ∙ sym same)
 
   -- an alternative of a name is one of its productions
-  pub alternatives_own : (b : NonterminalString) (r : Production) → Contains (alternatives_in v b) r → Contains (productions_in v) r × (r.nonterminal ≡ b)
+  pub alternatives_own : (b : NonterminalString) (r : Production) → Contains (alternatives_in v b) r → Contains (productions_of_view v) r × (r.nonterminal ≡ b)
   alternatives_own b r c = found_own b (lookup (is_at (name_cmp b)) v.entries) r refl c
 
   -- a production of a name is one of its alternatives
-  pub alternatives_all : (b : NonterminalString) (r : Production) → Contains (productions_in v) r → r.nonterminal ≡ b → Contains (alternatives_in v b) r
+  pub alternatives_all : (b : NonterminalString) (r : Production) → Contains (productions_of_view v) r → r.nonterminal ≡ b → Contains (alternatives_in v b) r
   alternatives_all b r c n =
       let (e, there, stands) = listed_entry v r c in
       let at = contains_place v.entries e there in
       let same : e.0 ≡ b = sym (proper_production e r there stands).named ∙ n in
       let found : lookup (eq_by_cmp name_cmp e.0) v.entries ≡ Some e.1 = lookup_from_place (eq_by_cmp_equiv name_order.total-law) v.entries at.0 e.0 e.1 (IsDistinct-from_sorted name_cmp (keys_of v.entries) proper.ordered) at.1 in
-      subst (λ (a : NonterminalString). Contains (alternatives_in v a) r) same (subst (λ (o : Option Entry). Contains (listed o) r) (sym found) stands)
+      subst (λ (a : NonterminalString). Contains (alternatives_in v a) r) same (subst (λ (o : Option Entry). Contains (productions_of_entry o) r) (sym found) stands)
 
 module _ (b : NonterminalString) (alternatives : List Production) where
   -- the entry from which one with replaced productions comes
@@ -164,7 +164,7 @@ module _ (terminals : List TerminalString) (v : View) (proper : IsProper termina
       record { from = f; arises = arises_wider b (alternatives_in v b) f.entry.1.productions f.entry.1.productions (length f.before) (length (replaced_all b (alternatives_in v b) f.entry.1.productions f.before).defns) (length v.defns) (length (inlined_of b v).defns) p (λ x k. k) f.low f.high a }
 
   -- the new grammar has choices in the place of the productions that mentioned the nonterminal
-  pub is_replaced : IsReplaced b (alternatives_in v b) (productions_in v) (productions_in (inlined_of b v))
+  pub is_replaced : IsReplaced b (alternatives_in v b) (productions_of_view v) (productions_of_view (inlined_of b v))
   is_replaced = record { own = alternatives_own terminals v proper b; only = only; sound = sound; complete = complete }
     where
       only_arises : (e : NonterminalString × Entry) (r : Production) (low high : ℕ) → Contains v.entries e → r.nonterminal ≡ b → Arises b (alternatives_in v b) e.1.productions low high r → Contains (alternatives_in v b) r
@@ -174,23 +174,23 @@ module _ (terminals : List TerminalString) (v : View) (proper : IsProper termina
           let both : true ≡ false = sym h ∙ alone p own in
           cc
 
-      only : (r : Production) → Contains (productions_in (inlined_of b v)) r → r.nonterminal ≡ b → Contains (alternatives_in v b) r
+      only : (r : Production) → Contains (productions_of_view (inlined_of b v)) r → r.nonterminal ≡ b → Contains (alternatives_in v b) r
       only r c n =
           let (e, there, stands) = listed_entry (inlined_of b v) r c in
           let m = comes e r there stands in
           only_arises m.from.entry r (length v.defns) (length (inlined_of b v).defns) m.from.there n m.arises
 
-      sound_arises : (e : NonterminalString × Entry) (p : Production) (low high : ℕ) → Contains v.entries e → Arises b (alternatives_in v b) e.1.productions low high p → (q : Production) × (c : List InlinedSymbol) × Contains (productions_in v) q × Contains (choices b (alternatives_in v b) q.symbols) c × (p.nonterminal ≡ q.nonterminal) × (p.symbols ≡ laid_out c)
+      sound_arises : (e : NonterminalString × Entry) (p : Production) (low high : ℕ) → Contains v.entries e → Arises b (alternatives_in v b) e.1.productions low high p → (q : Production) × (c : List InlinedSymbol) × Contains (productions_of_view v) q × Contains (choices b (alternatives_in v b) q.symbols) c × (p.nonterminal ≡ q.nonterminal) × (p.symbols ≡ laid_out c)
       sound_arises e p low high there (kept c h) = (p, map Original p.symbols, entry_listed v e p there c, own_choice b (alternatives_in v b) p.symbols h, refl, sym (own_laid_out b (alternatives_in v b) p.symbols))
       sound_arises e p low high there (made q c h k) = (q, k.choice, entry_listed v e q there c, k.among, k.name, k.symbols)
 
-      sound : (p : Production) → Contains (productions_in (inlined_of b v)) p → (q : Production) × (c : List InlinedSymbol) × Contains (productions_in v) q × Contains (choices b (alternatives_in v b) q.symbols) c × (p.nonterminal ≡ q.nonterminal) × (p.symbols ≡ laid_out c)
+      sound : (p : Production) → Contains (productions_of_view (inlined_of b v)) p → (q : Production) × (c : List InlinedSymbol) × Contains (productions_of_view v) q × Contains (choices b (alternatives_in v b) q.symbols) c × (p.nonterminal ≡ q.nonterminal) × (p.symbols ≡ laid_out c)
       sound p c =
           let (e, there, stands) = listed_entry (inlined_of b v) p c in
           let m = comes e p there stands in
           sound_arises m.from.entry p (length v.defns) (length (inlined_of b v).defns) m.from.there m.arises
 
-      complete : (q : Production) (c : List InlinedSymbol) → Contains (productions_in v) q → Contains (choices b (alternatives_in v b) q.symbols) c → (p : Production) × Contains (productions_in (inlined_of b v)) p × (p.nonterminal ≡ q.nonterminal) × (p.symbols ≡ laid_out c)
+      complete : (q : Production) (c : List InlinedSymbol) → Contains (productions_of_view v) q → Contains (choices b (alternatives_in v b) q.symbols) c → (p : Production) × Contains (productions_of_view (inlined_of b v)) p × (p.nonterminal ≡ q.nonterminal) × (p.symbols ≡ laid_out c)
       complete q c k among =
           let (e, there, stands) = listed_entry v q k in
           let t = entry_to b (alternatives_in v b) v.entries v.defns e there in
@@ -198,8 +198,8 @@ module _ (terminals : List TerminalString) (v : View) (proper : IsProper termina
           (m.made, entry_listed (inlined_of b v) t.new m.made t.there (subst (λ (ps : List Production). Contains ps m.made) (sym t.productions) m.there), m.name, m.symbols)
 
   -- every nonterminal keeps its terminal lists
-  pub step_keeps_lists : (a : NonterminalString) (w : List TerminalString) → IsSentence (productions_in v) a w ↔ IsSentence (productions_in (inlined_of b v)) a w
-  step_keeps_lists = same_terminal_lists b (alternatives_in v b) (productions_in v) (productions_in (inlined_of b v)) is_replaced
+  pub step_keeps_lists : (a : NonterminalString) (w : List TerminalString) → IsSentence (productions_of_view v) a w ↔ IsSentence (productions_of_view (inlined_of b v)) a w
+  step_keeps_lists = same_terminal_lists b (alternatives_in v b) (productions_of_view v) (productions_of_view (inlined_of b v)) is_replaced
 
   known_symbol : (l : List Symbol) → HasKnownTerminals terminals l → (t : TerminalString) → Contains l (Terminal t) → Contains terminals t
   known_symbol l known t c = let at = contains_place l (Terminal t) c in known at.0 t at.1
@@ -242,8 +242,8 @@ module _ (terminals : List TerminalString) (v : View) (proper : IsProper termina
   }
 
   -- a nonterminal that the new grammar mentions is another one, and the old grammar mentioned it
-  pub step_mentions : (p : Production) (c : NonterminalString) → Contains (productions_in (inlined_of b v)) p → Contains p.symbols (Nonterminal c) →
-      (q : Production) × Contains (productions_in v) q × ((q.nonterminal ≡ p.nonterminal) ⊎ (q.nonterminal ≡ b)) × Contains q.symbols (Nonterminal c) × (is_named b (Nonterminal c) ≡ false)
+  pub step_mentions : (p : Production) (c : NonterminalString) → Contains (productions_of_view (inlined_of b v)) p → Contains p.symbols (Nonterminal c) →
+      (q : Production) × Contains (productions_of_view v) q × ((q.nonterminal ≡ p.nonterminal) ⊎ (q.nonterminal ≡ b)) × Contains q.symbols (Nonterminal c) × (is_named b (Nonterminal c) ≡ false)
   step_mentions p c k m =
       let r = is_replaced.sound p k in
       elim (symbol_from b (alternatives_in v b) (r.0).symbols r.1 (Nonterminal c) r.3 (subst (λ (s : List Symbol). Contains s (Nonterminal c)) r.5 m)) [

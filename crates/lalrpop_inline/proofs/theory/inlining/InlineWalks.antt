@@ -12,7 +12,7 @@ use Rattle.lalrpop_inline.proofs.Types.{Grammar, NonterminalString, Production, 
 use Rattle.lalrpop_grammar.specs.declared.repr.Symbol.TheVariants.{Nonterminal, Terminal}
 use Rattle.lalrpop_collections.proofs.theory.lists.Lists.{contains-cons, contains-nil, contains_head, contains_tail, Ended, nothing, last, ended, same_last}
 use Rattle.lalrpop_inline.specs.declared.inline.graph.depth_first.Walk.{Walk}
-use Rattle.lalrpop_inline.specs.Words.{IsMarked, Mentions, names_of, mentioned_in, IsWalk}
+use Rattle.lalrpop_inline.specs.Words.{IsMarked, Mentions, nonterminal_names, mentioned_in, IsWalk}
 use Rattle.lalrpop_collections.proofs.theory.lists.Apart.{apart_from, apart_to, Apart-append}
 use Rattle.lalrpop_grammar.proofs.theory.first.FirstNames.{name_same, name_self}
 use Rattle.lalrpop_collections.proofs.theory.lists.Members.{of_flat}
@@ -21,18 +21,18 @@ use Rattle.lalrpop_collections.proofs.theory.lists.Bounded.{in_flat_map}
 -- a mentioned name is in a production
 pub mentioned_names : (ps : List Production) (c : NonterminalString) → Contains (mentioned_in ps) c → (p : Production) × Contains ps p × Contains p.symbols (Nonterminal c)
 mentioned_names ps c k =
-    let p = of_flat (λ (q : Production). flat_map names_of q.symbols) ps c k in
-    let x = of_flat names_of (p.0).symbols c p.2 in
+    let p = of_flat (λ (q : Production). flat_map nonterminal_names q.symbols) ps c k in
+    let x = of_flat nonterminal_names (p.0).symbols c p.2 in
     (p.0, p.1, subst (Contains (p.0).symbols) (is_name x.0 x.2) x.1)
   where
-    is_name : (x : Symbol) → Contains (names_of x) c → x ≡ Nonterminal c
+    is_name : (x : Symbol) → Contains (nonterminal_names x) c → x ≡ Nonterminal c
     is_name (Nonterminal a) h = elim (contains-cons a [] c h) [ inl e ↦ ap Nonterminal e | inr n ↦ absurd (contains-nil n) ]
     is_name (Terminal t) h = absurd (contains-nil h)
 
 pub names_mentioned : (ps : List Production) (c : NonterminalString) (p : Production) → Contains ps p → Contains p.symbols (Nonterminal c) → Contains (mentioned_in ps) c
 names_mentioned ps c p k m =
-    let inner : Contains (flat_map names_of p.symbols) c = in_flat_map names_of p.symbols (Nonterminal c) c m (contains_head c []) in
-    in_flat_map (λ (q : Production). flat_map names_of q.symbols) ps p c k inner
+    let inner : Contains (flat_map nonterminal_names p.symbols) c = in_flat_map nonterminal_names p.symbols (Nonterminal c) c m (contains_head c []) in
+    in_flat_map (λ (q : Production). flat_map nonterminal_names q.symbols) ps p c k inner
 
 -- a set with a name put in, or taken out
 abbrev pub Sets : NonterminalString → Bool → BTreeSet NonterminalString → BTreeSet NonterminalString → Type 0

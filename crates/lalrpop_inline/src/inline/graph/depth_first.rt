@@ -6,8 +6,8 @@ ghost use Rattle.std.specs.BTreeSet.{contains};
 ghost use Rattle.lalrpop_base.specs.Words.{name_cmp};
 ghost use Rattle.lalrpop_grammar.specs.declared.repr.NonterminalString.{NonterminalString};
 ghost use Rattle.lalrpop_inline.specs.inlining.InlineOrder.{IsMarked, IsCycleOf, HasSpan};
-ghost use Rattle.lalrpop_inline.specs.inlining.InlineMeetings.{ComesBack, ComesBackFrom, GoesPast, IsInside, IsMetName, IsNewest, LeadsBack, NamesBy, with_next};
-ghost use Rattle.lalrpop_inline.specs.inlining.InlineWalks.{mentioned_in, names_of, IsWalk, IsFrame, HasFrames, HasNext, IsWalked, LeadTo};
+ghost use Rattle.lalrpop_inline.specs.inlining.InlineMeetings.{ComesBack, ComesBackFrom, GoesPast, IsInside, IsMetName, IsNewest, ComesBackToAllOf, NamesBy, with_next};
+ghost use Rattle.lalrpop_inline.specs.inlining.InlineWalks.{mentioned_in, nonterminal_names, IsWalk, IsFrame, HasFrames, HasNext, IsWalked, LeadTo};
 
 use lalrpop_base::memory::OutOfMemory;
 use lalrpop_base::repr::grammar::Grammar;
@@ -39,7 +39,8 @@ fn push_names(
     symbols: &[Symbol],
     names: &mut Vec<NonterminalString>,
 ) -> Result<(), OutOfMemory>
-    ensures { OnOk result (names.new.items ≡ names.old.items ++ flat_map names_of symbols.now) }
+    ensures { OnOk result (names.new.items ≡
+        names.old.items ++ flat_map nonterminal_names symbols.now) }
 {
     for symbol in symbols {
         if let Symbol::Nonterminal(name) = symbol {
@@ -165,7 +166,7 @@ fn step(
         (IsWalked grammar.now walk.old walk.new (reverse frames.new.items)) }
     ensures falls { OnOk result (2 * length walk.new.pending.keys + length frames.new.items ≤
         2 * length walk.old.pending.keys + length frames.old.items) }
-    ensures back { OnOk result (LeadsBack grammar.now (frame ∷ reverse frames.old.items)
+    ensures back { OnOk result (ComesBackToAllOf grammar.now (frame ∷ reverse frames.old.items)
         walk.old.order.items (reverse frames.new.items) walk.new.order.items) }
     ensures refused { IfErr result (IsCycleOf grammar.now) }
     ensures met { IfErr result (NamesBy (λ name. (rest : List NonterminalString) →

@@ -13,7 +13,7 @@ use Rattle.lalrpop_follow_sets.specs.follow_sets.FollowWalks.{FindsLookaheads}
 use Rattle.lalrpop_construction.specs.states.NumberedStates.{AreNumberedStates, AreReducedNumbers, IsNumberedState}
 use Rattle.lalrpop_construction.specs.Words.{by, HasSamePlace, HaveSamePlaces, places_in}
 use Rattle.lalrpop_numbers.specs.declared.numbers.Numbers.{Numbers}
-use Rattle.lalrpop_follow_sets.specs.declared.follow_sets.found.Found.{Found}
+use Rattle.lalrpop_follow_sets.specs.declared.follow_sets.sets.FollowSets.{FollowSets}
 use Rattle.lalrpop_construction.specs.declared.construction.numbered_state.NumberedState.{NumberedState}
 use Rattle.lalrpop_follow_sets.proofs.theory.follow_sets.FollowSets.{lane_lookahead}
 use Rattle.lalrpop_lane_states.proofs.theory.lane_states.LaneCoherent.{old_at}
@@ -32,7 +32,7 @@ bits_there g start a b same s set p h bit = (
 )
 
 -- the results of a pass stay
-pub finds_on : (g : Rules) (start : NonterminalString) (n : Numbers) (a b : ℕ → Contents) → AreSamePlaces a b → (before after : ℕ) → before ≡ after → (found : Found) → FindsLookaheads g start n a before found → FindsLookaheads g start n b after found
+pub finds_on : (g : Rules) (start : NonterminalString) (n : Numbers) (a b : ℕ → Contents) → AreSamePlaces a b → (before after : ℕ) → before ≡ after → (found : FollowSets) → FindsLookaheads g start n a before found → FindsLookaheads g start n b after found
 finds_on g start n a b same before after counted found h = record {
   counted = h.counted ∙ counted;
   within = h.within;
@@ -51,7 +51,6 @@ state_there n a b same state h = record {
     λ c. same.edges s ∙ (h.edges x m s at).0 c,
     λ l. (h.edges x m s at).1 (sym (same.edges s) ∙ l),
   );
-  ascend = h.ascend;
 }
 
 -- the numbers of its reductions are those of each state with the same place

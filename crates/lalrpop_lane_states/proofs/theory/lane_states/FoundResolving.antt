@@ -6,18 +6,18 @@ use Rattle.std.specs.BTreeMap.{BTreeMap}
 use Rattle.std.proofs.lemmas.Option.{slice_get_within}
 use Rattle.lalrpop_base.specs.Words.{Bits, has, contents, contents_at, Contents, HoldsBit, IsBitOf, leads, place_in, Rules, Action, Shift, Reduce}
 use Rattle.lalrpop_follow_sets.specs.Words.{HasLookaheadBits, IsLookahead}
-use Rattle.lalrpop_states.specs.conflicts.StateConflicts.{HasNoConflict}
+use Rattle.lalrpop_states.specs.conflicts.StateConflicts.{IsConflictFree}
 use Rattle.lalrpop_lane_states.proofs.Types.{NonterminalString, Production, State, StateIndex, Symbol, TerminalString, Token}
 use Rattle.lalrpop_grammar.specs.declared.lookahead.token.Token.TheVariants.{Terminal as TokenOf}
 use Rattle.lalrpop_states.specs.declared.lr1_core.state.Items.{Items}
 use Rattle.lalrpop_grammar.specs.declared.repr.Symbol.TheVariants.{Terminal}
 use Rattle.lalrpop_states.proofs.theory.states.HeldTokens.{place_there}
-use Rattle.lalrpop_lane_states.specs.Words.{AreLaneStates, IsResolvedAt, IsStep}
+use Rattle.lalrpop_lane_states.specs.Words.{AreLaneStates, IsResolvedAt, IsStateStep}
 use Rattle.lalrpop_construction.specs.Words.{by, dot_of, places_in}
 use Rattle.lalrpop_follow_sets.specs.Words.{IsLaneAction, IsResolved, LanesMeet}
 use Rattle.lalrpop_follow_sets.specs.follow_sets.FollowWalks.{AreUnions, entries_at, HoldsSomeOf, ShareBits, with_first, with_other}
 use Rattle.lalrpop_lane_states.specs.lane_states.FoundLookaheads.{IsFoundAt, with_sets}
-use Rattle.lalrpop_follow_sets.specs.declared.follow_sets.found.Found.{Found}
+use Rattle.lalrpop_follow_sets.specs.declared.follow_sets.sets.FollowSets.{FollowSets}
 use Rattle.lalrpop_construction.specs.declared.construction.numbered_state.NumberedState.{NumberedState}
 use Rattle.lalrpop_follow_sets.proofs.theory.follow_sets.FollowBits.{held_at, held_within}
 use Rattle.lalrpop_follow_sets.proofs.theory.follow_sets.FollowPasses.{numbered_behind}
@@ -48,7 +48,7 @@ meet_there g start a b same n m = record {
   there = action_there g start a b same n m.token m.second m.there;
 }
 
-module _ (g : Rules) (start : NonterminalString) (states : List (State Bits)) (made : AreLaneStates g start states) (n : ℕ) (found : Found) (numbered : NumberedState) (fits : IsFoundAt g start states n found numbered)
+module _ (g : Rules) (start : NonterminalString) (states : List (State Bits)) (made : AreLaneStates g start states) (n : ℕ) (found : FollowSets) (numbered : NumberedState) (fits : IsFoundAt g start states n found numbered)
     (state : State Bits) (at : slice_get states n ≡ Some state) (sets : List Bits) (unions : AreUnions found.follow.items (entries_at found.lookback.items n) numbered.reductions.items sets) where
   abbrev any : Bits → Token → Bool
   any lookahead t = true
@@ -64,7 +64,7 @@ module _ (g : Rules) (start : NonterminalString) (states : List (State Bits)) (m
   sets_counted = unions.counted ∙ (fits.reduced state at).counted
 
   -- if the reductions take their sets, nothing else changes
-  pub found_step : (new : State Bits) → new.index ≡ state.index → new.items ≡ state.items → new.shifts ≡ state.shifts → new.gotos ≡ state.gotos → new.reductions.items ≡ with_sets sets reductions → IsStep n states (slice_set states n new)
+  pub found_step : (new : State Bits) → new.index ≡ state.index → new.items ≡ state.items → new.shifts ≡ state.shifts → new.gotos ≡ state.gotos → new.reductions.items ≡ with_sets sets reductions → IsStateStep n states (slice_set states n new)
   found_step new number items shifts gotos took =
       set_step n states (slice_set states n new) state new at refl
       (record { index = number; dots = ap (λ (xs : Items Bits). map dot_of xs.vec.items) items; shifts = shifts; gotos = gotos; reduced = ap (map by) took ∙ sets_by sets reductions sets_counted })
@@ -117,7 +117,7 @@ module _ (g : Rules) (start : NonterminalString) (states : List (State Bits)) (m
           (held_at sets j bit t.set t.found).1 (subst (λ (q : CodeReduction). has q.0 bit ≡ true) t.same h)
 
       -- the state has no conflict
-      free : HasNoConflict g.terminals new
+      free : IsConflictFree g.terminals new
       free = record {
         shifts = λ k j bit t target r at_k place at_j h.
             let entry : Contains state.shifts.entries (t, target) = subst (λ (m : BTreeMap TerminalString StateIndex). Contains m.entries (t, target)) shifts (place_contains new.shifts.entries k (t, target) at_k) in

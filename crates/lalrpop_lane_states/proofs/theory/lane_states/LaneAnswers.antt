@@ -6,7 +6,7 @@ use Rattle.std.specs.Borrow.{Bor}
 use Rattle.std.proofs.lemmas.Option.{slice_get_within}
 use Rattle.lalrpop_base.specs.Words.{Bits, contents, contents_at, holds_token, reduction_of, IsOnNoRightSide, behind_parent, of_start, IsLaneToken}
 use Rattle.lalrpop_base.specs.Words.{HoldLaneTokens, HoldLalrTokens, AllDiffer, Contents, state_after, HasRightItems, IsBitOf, Action, Shift, Reduce}
-use Rattle.lalrpop_base.specs.Words.{IsLalrAction, IsLALR1, Rules, rules_of, productions, IsWellFormed, HaveNoConflict}
+use Rattle.lalrpop_base.specs.Words.{IsLalrAction, IsLALR1, Rules, rules_of, productions, IsWellFormed, AreAllConflictFree}
 use Rattle.lalrpop_grammar.specs.conflicts.Conflicts.{HasNoConflict as HoldsNoConflict}
 use Rattle.lalrpop_grammar.specs.lanes.Lanes.{Gives}
 use Rattle.lalrpop_grammar.specs.states.States.{Reduction}
@@ -19,11 +19,11 @@ use Rattle.lr1_theory.proofs.theory.lanes.Lanes.{lane_tokens, lanes_faithful, it
 use Rattle.lr1_theory.proofs.theory.collapse.LalrStates.{no_conflict_lalr}
 use Rattle.lr1_theory.proofs.theory.lanes.LaneTables.{lanes_checked}
 use Rattle.lalrpop_grammar.proofs.theory.states.RightStates.{edges_awaited, reductions_valid}
-use Rattle.lalrpop_lane_states.specs.Words.{AreLaneStates, HaveMeetingLanes, IsStep, AreLaneTables, AreLalrLaneTables}
+use Rattle.lalrpop_lane_states.specs.Words.{AreLaneStates, HaveMeetingLanes, IsStateStep, AreLaneTables, AreLalrLaneTables}
 use Rattle.lalrpop_follow_sets.specs.Words.{HasLaneBits, IsResolved, IsLaneAction, LanesMeet}
 use Rattle.lalrpop_construction.specs.Words.{places_in}
 use Rattle.lalrpop_numbers.specs.declared.numbers.Numbers.{Numbers}
-use Rattle.lalrpop_follow_sets.specs.declared.follow_sets.found.Found.{Found}
+use Rattle.lalrpop_follow_sets.specs.declared.follow_sets.sets.FollowSets.{FollowSets}
 use Rattle.lalrpop_construction.specs.declared.construction.numbered_state.NumberedState.{NumberedState}
 use Rattle.lalrpop_follow_sets.proofs.theory.follow_sets.FollowSets.{rest_behind}
 use Rattle.lalrpop_lane_states.proofs.theory.lane_states.LaneLoop.{AreResolvedTo}
@@ -90,7 +90,7 @@ module _ (g : Grammar) (start : NonterminalString) (well : IsWellFormed g) (diff
 
   -- ---- the start symbol is on no right side
   module _ (alone : IsOnNoRightSide (productions g) start) where
-    free_at : HaveNoConflict g.terminals states → (n : ℕ) (o : Option (State Bits)) → slice_get states n ≡ o → HoldsNoConflict (contents_at holds o)
+    free_at : AreAllConflictFree g.terminals states → (n : ℕ) (o : Option (State Bits)) → slice_get states n ≡ o → HoldsNoConflict (contents_at holds o)
     free_at free n None at = nowhere_conflict
     free_at free n (Some s) at = free_contents g.terminals s (free n s at)
 
@@ -141,13 +141,13 @@ pub some_told : (o : Option ℕ) (n : ℕ) (A : Type 0) (B : ℕ → Type 0) →
 some_told None n A B e h = cc
 some_told (Some m) n A B e h = subst (λ (p : Option ℕ). MatchOption p A B) e h
 
-pub all_done : (g : Rules) (start : NonterminalString) (numbers : Numbers) (found : Found) (list : List NumberedState) (count index : ℕ) (states : List (State Bits)) → count ≤ index → AreResolvedTo g start numbers found list count index states → (n : ℕ) (state : State Bits) → slice_get states n ≡ Some state → IsResolved g start (places_in states) n state
+pub all_done : (g : Rules) (start : NonterminalString) (numbers : Numbers) (found : FollowSets) (list : List NumberedState) (count index : ℕ) (states : List (State Bits)) → count ≤ index → AreResolvedTo g start numbers found list count index states → (n : ℕ) (state : State Bits) → slice_get states n ≡ Some state → IsResolved g start (places_in states) n state
 all_done g start numbers found list count index states past h n state at =
     let within = slice_get_within states n state at in
     let counted = h.counted in
     h.done n state (omega arith) at
 
-pub were_met : (g : Rules) (start : NonterminalString) (numbers : Numbers) (found : Found) (list : List NumberedState) (count index : ℕ) (old new : List (State Bits)) → AreResolvedTo g start numbers found list count index old → IsStep index old new → (b : Bool) (A : Type 0) → b ≡ false →
+pub were_met : (g : Rules) (start : NonterminalString) (numbers : Numbers) (found : FollowSets) (list : List NumberedState) (count index : ℕ) (old new : List (State Bits)) → AreResolvedTo g start numbers found list count index old → IsStateStep index old new → (b : Bool) (A : Type 0) → b ≡ false →
     MatchBool b A (LanesMeet g.productions start (contents g.terminals new) index × (new ≡ old)) → HaveMeetingLanes g start new
 were_met g start numbers found list count index old new h step true A e m = cc
 were_met g start numbers found list count index old new h step false A e m = subst (HaveMeetingLanes g start) (sym m.1) (record {

@@ -3,7 +3,7 @@ use Rattle.std.proofs.Common.{◌≡◌, ℕ, suc, ◌-◌, ◌<◌, List, [], �
 use Rattle.std.specs.Prelude.{slice_get}
 use Rattle.std.specs.BTreeMap.{BTreeMap}
 use Rattle.std.proofs.lemmas.Option.{slice_get_within, slice_get-map}
-use Rattle.lalrpop_base.specs.Words.{HasItem, IsShifted, IsCoherentStep, IsCoherentState, AreFinished, AreCoherent, Dotted}
+use Rattle.lalrpop_base.specs.Words.{HasItem, IsShiftedFrom, IsCoherentStep, IsCoherentState, AreFinished, AreCoherent, Dotted}
 use Rattle.lalrpop_lane_states.proofs.Types.{NonterminalString, Production, State, StateIndex, Symbol, TerminalString}
 use Rattle.lalrpop_grammar.specs.declared.repr.Symbol.TheVariants.{Nonterminal, Terminal}
 use Rattle.lalrpop_collections.proofs.theory.lists.Lists.{some_of_map}
@@ -22,7 +22,7 @@ module _ {K L : Type 0} where
       let s = stands dot_of dot_of ys xs (sym same) k item at in
       (k, s.0, s.1, record { same = ap (λ (x : Production × ℕ). x.0) s.2 ∙ here.same; dot = ap (λ (x : Production × ℕ). x.1) s.2 ∙ here.dot })
 
-  shifted_there : (xs : List (Dotted K)) (ys : List (Dotted L)) → map dot_of ys ≡ map dot_of xs → (x : Symbol) (i : Dotted K) (j : Dotted L) → dot_of i ≡ dot_of j → IsShifted xs x i → IsShifted ys x j
+  shifted_there : (xs : List (Dotted K)) (ys : List (Dotted L)) → map dot_of ys ≡ map dot_of xs → (x : Symbol) (i : Dotted K) (j : Dotted L) → dot_of i ≡ dot_of j → IsShiftedFrom xs x i → IsShiftedFrom ys x j
   shifted_there xs ys same x i j e h = record {
     over = subst (λ (d : Production × ℕ). slice_get d.0.symbols (d.1 - 1) ≡ Some x) e h.over;
     origin = subst (λ (d : Production × ℕ). HasItem ys d.0 (d.1 - 1)) e (item_there xs ys same i.production (i.index - 1) h.origin);

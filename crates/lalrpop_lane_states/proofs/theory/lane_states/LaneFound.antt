@@ -7,14 +7,14 @@ use Rattle.lalrpop_lane_states.proofs.Types.{NonterminalString, Production, Stat
 use Rattle.lr1_theory.proofs.theory.closures.Closures.{reached_at}
 use Rattle.lalrpop_collections.proofs.theory.lists.Lists.{grown}
 use Rattle.lalrpop_grammar.proofs.theory.closures.Valid.{of_grammar}
-use Rattle.lalrpop_follow_sets.specs.follow_sets.FollowNodes.{AreAllReached, AreOfGrammar}
+use Rattle.lalrpop_follow_sets.specs.follow_sets.FollowNodes.{AreAllReached, AreItemsOfGrammar}
 use Rattle.lalrpop_follow_sets.specs.follow_sets.FollowWalks.{FindsLookaheads}
 use Rattle.lalrpop_lane_states.specs.lane_states.FoundLookaheads.{IsFoundAt}
 use Rattle.lalrpop_construction.specs.states.NumberedStates.{AreNumberedStates}
 use Rattle.lalrpop_lane_states.specs.Words.{AreLaneStates}
 use Rattle.lalrpop_construction.specs.Words.{places_in}
 use Rattle.lalrpop_numbers.specs.declared.numbers.Numbers.{Numbers}
-use Rattle.lalrpop_follow_sets.specs.declared.follow_sets.found.Found.{Found}
+use Rattle.lalrpop_follow_sets.specs.declared.follow_sets.sets.FollowSets.{FollowSets}
 use Rattle.lalrpop_construction.specs.declared.construction.numbered_state.NumberedState.{NumberedState}
 use Rattle.lalrpop_lane_states.proofs.theory.lane_states.LaneShape.{here_closed, right_at}
 
@@ -49,7 +49,7 @@ module _ (g : Rules) (start : NonterminalString) (states : List (State Bits)) (m
       reached_at g.productions start places lane_closed (grown a.prefix) n a.after
 
   -- each item is of the grammar
-  pub lane_own : AreOfGrammar g.productions places
+  pub lane_own : AreItemsOfGrammar g.productions places
   lane_own s q dot item = by_case (slice_get states s) refl item
     where
       by_case : (o : Option (State Bits)) → slice_get states s ≡ o → Contains (contents_at any o).items (q, dot) → Contains g.productions q × (dot ≤ length q.symbols)
@@ -61,7 +61,7 @@ module _ (g : Rules) (start : NonterminalString) (states : List (State Bits)) (m
 
   module _ (n : Numbers) (numbers : AreNumbers g n) where
     -- a pass finds the lookahead sets of each state
-    pub found_at : (found : Found) (list : List NumberedState) → FindsLookaheads g start n places (length states) found → AreNumberedStates n states list → (s : ℕ) (state : NumberedState) → slice_get list s ≡ Some state → IsFoundAt g start states s found state
+    pub found_at : (found : FollowSets) (list : List NumberedState) → FindsLookaheads g start n places (length states) found → AreNumberedStates n states list → (s : ℕ) (state : NumberedState) → slice_get list s ≡ Some state → IsFoundAt g start states s found state
     found_at found list finds numbered s state at = record {
       numbers = n;
       of_grammar = numbers;

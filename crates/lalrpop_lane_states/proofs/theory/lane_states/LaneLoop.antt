@@ -6,13 +6,13 @@ use Rattle.lalrpop_base.specs.Words.{Bits, Contents, Rules}
 use Rattle.lalrpop_states.specs.declared.lr1_core.state.Items.{Items}
 use Rattle.lalrpop_lane_states.proofs.Types.{NonterminalString, State, TerminalString}
 use Rattle.lalrpop_construction.specs.Words.{HasSamePlace, HaveSamePlaces, places_in}
-use Rattle.lalrpop_lane_states.specs.Words.{AreLaneStates, HaveFullItems, HoldAllFrom, IsResolvedAt, IsStep}
+use Rattle.lalrpop_lane_states.specs.Words.{AreLaneStates, HaveFullItems, HoldAllFrom, IsResolvedAt, IsStateStep}
 use Rattle.lalrpop_follow_sets.specs.Words.{IsResolved}
 use Rattle.lalrpop_state_graph.specs.Words.{edges, IsGraphOf}
 use Rattle.lalrpop_follow_sets.specs.follow_sets.FollowWalks.{FindsLookaheads}
 use Rattle.lalrpop_construction.specs.states.NumberedStates.{AreNumberedStates}
 use Rattle.lalrpop_numbers.specs.declared.numbers.Numbers.{Numbers}
-use Rattle.lalrpop_follow_sets.specs.declared.follow_sets.found.Found.{Found}
+use Rattle.lalrpop_follow_sets.specs.declared.follow_sets.sets.FollowSets.{FollowSets}
 use Rattle.lalrpop_construction.specs.declared.construction.numbered_state.NumberedState.{NumberedState}
 use Rattle.lalrpop_state_graph.specs.declared.state_graph.StateGraph.{StateGraph}
 use Rattle.lalrpop_lane_states.proofs.theory.lane_states.FoundPlaces.{finds_on, numbered_on}
@@ -32,7 +32,7 @@ apart_or n m = elim (places_apart n m) [
 ]
 
 -- a step keeps the places
-pub step_places : (index : ℕ) (old new : List (State Bits)) → IsStep index old new → HaveSamePlaces old new
+pub step_places : (index : ℕ) (old new : List (State Bits)) → IsStateStep index old new → HaveSamePlaces old new
 step_places index old new s = record {
   counted = s.counted;
   each = λ n before after at_old at_new. elim (apart_or n index) [
@@ -47,7 +47,7 @@ step_places index old new s = record {
 }
 
 -- one state was written
-pub set_step : (index : ℕ) (old new : List (State Bits)) (before after : State Bits) → slice_get old index ≡ Some before → new ≡ slice_set old index after → HasSamePlace before after → after.items ≡ before.items → IsStep index old new
+pub set_step : (index : ℕ) (old new : List (State Bits)) (before after : State Bits) → slice_get old index ≡ Some before → new ≡ slice_set old index after → HasSamePlace before after → after.items ≡ before.items → IsStateStep index old new
 set_step index old new before after was written same items = record {
   before = before;
   after = after;
@@ -60,11 +60,11 @@ set_step index old new before after was written same items = record {
 }
 
 -- a step may change nothing
-pub idle_step : (index : ℕ) (states : List (State Bits)) (state : State Bits) → slice_get states index ≡ Some state → IsStep index states states
+pub idle_step : (index : ℕ) (states : List (State Bits)) (state : State Bits) → slice_get states index ≡ Some state → IsStateStep index states states
 idle_step index states state at = record { before = state; after = state; was = at; is = at; counted = refl; others = λ k other. refl; same = record { index = refl; dots = refl; shifts = refl; gotos = refl; reduced = refl }; items = refl }
 
 -- ---- properties that a step keeps
-step_items : (terminals : List TerminalString) (index : ℕ) (old new : List (State Bits)) → IsStep index old new → HaveFullItems terminals old → HaveFullItems terminals new
+step_items : (terminals : List TerminalString) (index : ℕ) (old new : List (State Bits)) → IsStateStep index old new → HaveFullItems terminals old → HaveFullItems terminals new
 step_items terminals index old new s full n state item at among = elim (apart_or n index) [
   | inl same ↦
       let is : state ≡ s.after = same_some state s.after (sym at ∙ ap (slice_get new) same ∙ s.is) in
@@ -72,7 +72,7 @@ step_items terminals index old new s full n state item at among = elim (apart_or
   | inr other ↦ full n state item (sym (s.others n other) ∙ at) among
 ]
 
-pub lane_states_on : (g : Rules) (start : NonterminalString) (index : ℕ) (old new : List (State Bits)) → IsStep index old new → AreLaneStates g start old → AreLaneStates g start new
+pub lane_states_on : (g : Rules) (start : NonterminalString) (index : ℕ) (old new : List (State Bits)) → IsStateStep index old new → AreLaneStates g start old → AreLaneStates g start new
 lane_states_on g start index old new step made =
     let same = step_places index old new step in
     record {
@@ -101,7 +101,7 @@ bits_on g start a b same n state h = record {
 
 -- the invariant of the loop: the states below the index are resolved, and those from it on hold all
 -- tokens; the results of the pass are of these states
-pub record AreResolvedTo (g : Rules) (start : NonterminalString) (n : Numbers) (found : Found) (list : List NumberedState) (count index : ℕ) (states : List (State Bits)) : Type 0 where
+pub record AreResolvedTo (g : Rules) (start : NonterminalString) (n : Numbers) (found : FollowSets) (list : List NumberedState) (count index : ℕ) (states : List (State Bits)) : Type 0 where
   pub lanes : AreLaneStates g start states
   pub finds : FindsLookaheads g start n (places_in states) (length states) found
   pub numbered : AreNumberedStates n states list
@@ -109,7 +109,7 @@ pub record AreResolvedTo (g : Rules) (start : NonterminalString) (n : Numbers) (
   pub done : (n : ℕ) (state : State Bits) → n < index → slice_get states n ≡ Some state → IsResolved g start (places_in states) n state
   pub left : HoldAllFrom g.terminals index states
 
-pub resolved_more : (g : Rules) (start : NonterminalString) (n : Numbers) (found : Found) (list : List NumberedState) (count index : ℕ) (old new : List (State Bits)) → AreResolvedTo g start n found list count index old → IsStep index old new → IsResolvedAt g start old index new → AreResolvedTo g start n found list count (index + 1) new
+pub resolved_more : (g : Rules) (start : NonterminalString) (n : Numbers) (found : FollowSets) (list : List NumberedState) (count index : ℕ) (old new : List (State Bits)) → AreResolvedTo g start n found list count index old → IsStateStep index old new → IsResolvedAt g start old index new → AreResolvedTo g start n found list count (index + 1) new
 resolved_more g start numbers found list count index old new h step resolved =
     let same = step_places index old new step in
     let places : AreSamePlaces (places_in old) (places_in new) = places_same (λ lookahead t. true) (λ lookahead t. true) old new same in

@@ -75,7 +75,6 @@ promoted_number n all old new state p is =
       items = λ k i at. subst (λ (ds : List (Production × ℕ)). Contains state.items.items k ↔ Contains ds (i.production, i.index)) (sym place.dots) (is.items k i at);
       named = is.named;
       edges = λ x m s at. subst (λ (o : Option ℕ). Contains state.edges.items (x, m) ↔ (o ≡ Some m)) (same_lead s) (is.edges x m s at);
-      ascend = is.ascend;
     }
   where
     same_lead : (s : Symbol) → leads (contents_of (λ (lookahead : Nil) (t : Token). true) old) s ≡ leads (contents_of (λ (lookahead : Bits) (t : Token). true) new) s

@@ -5,7 +5,7 @@ use Rattle.std.specs.Borrow.{Bor}
 use Rattle.std.specs.List.{flat_map}
 use Rattle.std.proofs.lemmas.Bool.{cases_lt}
 use Rattle.std.proofs.lemmas.Option.{slice_get_within}
-use Rattle.lalrpop_base.specs.Words.{Bits, AreCoherent, contents, contents_at, holds_token, Contents, Dotted, leads, ReducesFinished, Rules, state_conflicts, HaveNoConflict}
+use Rattle.lalrpop_base.specs.Words.{Bits, AreCoherent, contents, contents_at, holds_token, Contents, Dotted, leads, ReducesFinished, Rules, state_conflicts, AreAllConflictFree}
 use Rattle.lalrpop_lane_states.proofs.Types.{Action, Conflict, NonterminalString, Production, State, Symbol}
 use Rattle.lalrpop_states.specs.declared.lr1_core.state.Action.TheVariants.{Shift, Reduce}
 use Rattle.lalrpop_grammar.specs.declared.repr.Symbol.TheVariants.{Nonterminal, Terminal}
@@ -97,7 +97,7 @@ module _ (g : Rules) (start : NonterminalString) (copies : ℕ) (states : List (
       }
 
   -- such states without a conflict are tables
-  pub copied_free : AreLr0Copies g start copies states → HaveNoConflict g.terminals states → AreCopiedTables g start copies states
+  pub copied_free : AreLr0Copies g start copies states → AreAllConflictFree g.terminals states → AreCopiedTables g start copies states
   copied_free made free = record { made = made; closed = copied_closed g start made.handed made.made made.originals states made.each; free = free }
 
   pub copied_tables : AreLr0Copies g start copies states → (conflicts : List (Conflict Bits)) → conflicts ≡ flat_map (state_conflicts g.terminals) states → conflicts ≡ [] → AreCopiedTables g start copies states

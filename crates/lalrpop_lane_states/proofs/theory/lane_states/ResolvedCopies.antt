@@ -5,7 +5,7 @@ use Rattle.std.proofs.lemmas.Bool.{cases_lt}
 use Rattle.std.proofs.lemmas.Option.{slice_get_within}
 use Rattle.lalrpop_base.specs.Words.{Bits, Rules}
 use Rattle.lalrpop_lane_states.proofs.Types.{Action, NonterminalString, State, StateIndex}
-use Rattle.lalrpop_lane_states.specs.Words.{Advances, AreApart, AreResolvedUpTo, HasOverlap, HasSameReductions, IsApartAt, IsAttempted, IsMerging, IsResolvedCopy, IsTried}
+use Rattle.lalrpop_lane_states.specs.Words.{Advances, AreApart, AreResolvedUpTo, HasOverlap, HasSameReductions, IsApartAt, IsAttempted, IsMerging, IsResolvedCopy, IsResolveStep}
 use Rattle.lalrpop_state_graph.specs.Words.{AreCopies}
 use Rattle.lalrpop_lane_states.specs.declared.lane_table.construct.copying.Copying.{Copying}
 use Rattle.lalrpop_lane_states.specs.declared.lane_table.construct.merge.Merge.{Merge}
@@ -21,11 +21,11 @@ use Rattle.lalrpop_collections.proofs.theory.lists.Places.{filled, same_some}
 same_reductions : (states : List (State Bits)) (n : ℕ) → HasSameReductions states states n
 same_reductions states n before after was is = ap (λ (s : State Bits). s.reductions.items) (same_some after before (sym is ∙ was))
 
-pub tried_same : (index : ℕ) (states : List (State Bits)) → IsTried index false states states
+pub tried_same : (index : ℕ) (states : List (State Bits)) → IsResolveStep index false states states
 tried_same index states = record { apart = λ e. cc; kept = λ n other. same_reductions states n; longer = omega arith }
 
 -- a state is resolved if its reductions took columns that share no token
-pub tried_taken : (index : ℕ) (old new : List (State Bits)) (before after : State Bits) → slice_get old index ≡ Some before → new ≡ slice_set old index after → (actions : List Action) (table : LaneTable) → IsAttempted actions table before after → IsTried index true old new
+pub tried_taken : (index : ℕ) (old new : List (State Bits)) (before after : State Bits) → slice_get old index ≡ Some before → new ≡ slice_set old index after → (actions : List Action) (table : LaneTable) → IsAttempted actions table before after → IsResolveStep index true old new
 tried_taken index old new before after at set actions table a =
     let place = applied_same actions a.columns before after a.applied in
     let step = set_step index old new before after at set place a.applied.items in
@@ -50,7 +50,7 @@ module _ (old mid : Merge) (begun : AreCopies true old.states.items old.original
       let here : slice_get old.states.items n ≡ Some c.0 = ap (slice_get old.states.items) (sym (number_at mid.originals.items n n (own n before was))) ∙ c.1 in
       c.2.reductions ∙ ap (λ (s : State Bits). s.reductions.items) (same_some c.0 before (sym here ∙ was))
 
-  pub walked_tried : IsTried old.inconsistent_state.0 false old.states.items mid.states.items
+  pub walked_tried : IsResolveStep old.inconsistent_state.0 false old.states.items mid.states.items
   walked_tried = record { apart = λ e. cc; kept = λ n other. walked_kept n; longer = on.longer }
 
   module _ (ready : IsMerging old) (new : Merge) (same : new ≡ record mid { states = new.states }) (counted : length new.states.items ≡ length mid.states.items) (others : (n : ℕ) → (slice_get mid.originals.items n ≡ Some mid.inconsistent_state.0 → ⊥) → slice_get new.states.items n ≡ slice_get mid.states.items n) (resolved : (n : ℕ) → IsResolvedCopy new n) where
@@ -62,7 +62,7 @@ module _ (old mid : Merge) (begun : AreCopies true old.states.items old.original
         ∙ ap (λ (s : StateIndex). Some s.0) (sym on.start)
         ∙ ap (λ (m : Merge). Some m.inconsistent_state.0) (sym same)
 
-    pub patched_tried : IsTried old.inconsistent_state.0 true old.states.items new.states.items
+    pub patched_tried : IsResolveStep old.inconsistent_state.0 true old.states.items new.states.items
     patched_tried = record {
       apart = λ e state there. resolved old.inconsistent_state.0 state target there;
       kept = λ n other before after was is.
@@ -71,8 +71,8 @@ module _ (old mid : Merge) (begun : AreCopies true old.states.items old.original
       longer = let k = on.longer in omega arith;
     }
 
-pub tried_on : (i j : ℕ) (resolved : Bool) (a b c d : List (State Bits)) → i ≡ j → a ≡ b → c ≡ d → IsTried i resolved a c → IsTried j resolved b d
-tried_on i j resolved a b c d place was is tried = subst (λ n. IsTried n resolved b d) place (subst (λ (xs : List (State Bits)). IsTried i resolved xs d) was (subst (λ (xs : List (State Bits)). IsTried i resolved a xs) is tried))
+pub tried_on : (i j : ℕ) (resolved : Bool) (a b c d : List (State Bits)) → i ≡ j → a ≡ b → c ≡ d → IsResolveStep i resolved a c → IsResolveStep j resolved b d
+tried_on i j resolved a b c d place was is tried = subst (λ n. IsResolveStep n resolved b d) place (subst (λ (xs : List (State Bits)). IsResolveStep i resolved xs d) was (subst (λ (xs : List (State Bits)). IsResolveStep i resolved a xs) is tried))
 
 -- a state that was not resolved has an overlap
 pub overlap_if : {E : Type 0} (g : Rules) (start : NonterminalString) (copies n : ℕ) → HasOverlap g start copies n → (r : Result (Copying × Bool) E) → IfOk r (λ answer. answer.1 ≡ false → HasOverlap g start copies n)
@@ -92,7 +92,7 @@ pub record AreResolvedBelow (first index : ℕ) (handed states : List (State Bit
 pub below_none : (first : ℕ) (handed : List (State Bits)) → AreResolvedBelow first first handed handed
 below_none first handed = record { reached = omega arith; before = λ n l. same_reductions handed n; resolved = λ n l m. absurd (omega arith); left = λ n l. same_reductions handed n; longer = omega arith }
 
-module _ (first index : ℕ) (handed old new : List (State Bits)) (below : AreResolvedBelow first index handed old) (listed : index < length old) (done : Bool) (tried : IsTried index done old new) where
+module _ (first index : ℕ) (handed old new : List (State Bits)) (below : AreResolvedBelow first index handed old) (listed : index < length old) (done : Bool) (tried : IsResolveStep index done old new) where
   before_it : (n : ℕ) → first ≤ n → n < index → IsApartAt new n
   before_it n l m state at =
       let was = filled old n (omega arith) in

@@ -15,7 +15,7 @@ use Rattle.lalrpop_grammar.specs.declared.repr.Symbol.TheVariants.{Nonterminal, 
 use Rattle.lalrpop_collections.proofs.theory.lists.Lists.{some_of_map}
 use Rattle.lalrpop_construction.specs.Words.{by}
 use Rattle.lalrpop_state_graph.specs.Words.{index, AreReductionsOf, IsCopyOf, AreCopies}
-use Rattle.lalrpop_lane_states.specs.Words.{replaced, IsTaken}
+use Rattle.lalrpop_lane_states.specs.Words.{replaced_number, IsTaken}
 use Rattle.lalrpop_lane_states.proofs.theory.lane_states.LaneResolved.{by_all}
 use Rattle.lalrpop_states.proofs.theory.collapse.Merging.{set_here, set_elsewhere, set_length}
 use Rattle.lalrpop_grammar.proofs.theory.grammars.NameOrders.{terminal_order}
@@ -222,16 +222,16 @@ module _ (exact : Bool) (handed : List (State Bits)) (originals : List ℕ) (sta
     }
 
   -- ---- edges to a copy in the place of its original
-  module _ (n a b : ℕ) (before after : State Bits) (at : slice_get states n ≡ Some before) (own : slice_get originals a ≡ Some a) (of : slice_get originals b ≡ Some a) (numbered : after.index ≡ before.index) (items : after.items ≡ before.items) (shifts : after.shifts.entries ≡ retargeted_all (replaced a b) before.shifts.entries) (reductions : after.reductions ≡ before.reductions) (gotos : after.gotos.entries ≡ retargeted_all (replaced a b) before.gotos.entries) where
-    one_original : (m : ℕ) → original (replaced a b m) ≡ original m
+  module _ (n a b : ℕ) (before after : State Bits) (at : slice_get states n ≡ Some before) (own : slice_get originals a ≡ Some a) (of : slice_get originals b ≡ Some a) (numbered : after.index ≡ before.index) (items : after.items ≡ before.items) (shifts : after.shifts.entries ≡ retargeted_all (replaced_number a b) before.shifts.entries) (reductions : after.reductions ≡ before.reductions) (gotos : after.gotos.entries ≡ retargeted_all (replaced_number a b) before.gotos.entries) where
+    one_original : (m : ℕ) → original (replaced_number a b m) ≡ original m
     one_original m = elim (cases_Bool (m == a)) [
       | inl e ↦ ap (λ t. original (cond t b m)) e ∙ number_at originals b a of ∙ sym (number_at originals a a own) ∙ ap original (sym (eqb-true m a e))
       | inr e ↦ ap (λ t. original (cond t b m)) e
     ]
 
-    one_target : {K : Type 0} (es : List (K × StateIndex)) → retargeted_all original (retargeted_all (replaced a b) es) ≡ retargeted_all original es
+    one_target : {K : Type 0} (es : List (K × StateIndex)) → retargeted_all original (retargeted_all (replaced_number a b) es) ≡ retargeted_all original es
     one_target [] = refl
-    one_target (e ∷ es) = ap (λ m. (e.0, index m) ∷ retargeted_all original (retargeted_all (replaced a b) es)) (one_original e.1.0) ∙ ap (λ xs. (e.0, retargeted original e.1) ∷ xs) (one_target es)
+    one_target (e ∷ es) = ap (λ m. (e.0, index m) ∷ retargeted_all original (retargeted_all (replaced_number a b) es)) (one_original e.1.0) ∙ ap (λ xs. (e.0, retargeted original e.1) ∷ xs) (one_target es)
 
     patched_each : (k : ℕ) (state : State Bits) → slice_get (slice_set states n after) k ≡ Some state → (old : State Bits) × (slice_get handed (original k) ≡ Some old) × IsCopyOf exact original k old state
     patched_each k state there = elim (cases_eq k n) [

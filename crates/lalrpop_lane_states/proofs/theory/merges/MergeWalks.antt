@@ -13,7 +13,7 @@ use Rattle.std.proofs.lemmas.Nat.{mul-le}
 use Rattle.std.proofs.lemmas.Option.{slice_get_within}
 use Rattle.lalrpop_lane_states.proofs.Types.{StateIndex}
 use Rattle.lalrpop_collections.proofs.theory.lists.Lists.{contains_of_map}
-use Rattle.lalrpop_lane_states.specs.Words.{Advances, HasJoined, HasWalked, HaveNoNewMarks, HaveWalked, IsJoinedCopy, IsLinked, IsMerging, IsVisited, IsWalked, unvisited}
+use Rattle.lalrpop_lane_states.specs.Words.{Advances, HasJoined, HasWalked, HaveNoNewMarks, HaveWalked, IsJoinedCopy, IsLinked, IsMerging, IsVisited, HasOriginalRow, unvisited}
 use Rattle.lalrpop_lanes.specs.Words.{IsSuccessor}
 use Rattle.lalrpop_state_graph.specs.Words.{index, state_cmp}
 use Rattle.lalrpop_lane_states.specs.Words.{ComesTo, HasJoinedBut, IsJoin, IsJoinMade, IsMergeWalk, join_to, joins_to, most_joins}
@@ -138,7 +138,7 @@ walked_more old now new done state a h b w = record {
 }
 
 -- ---- the walk comes to a new state
-module _ (merge : Merge) (ready : IsMerging merge) (state : StateIndex) (w : IsWalked merge state) (original : ℕ) (at : slice_get merge.originals.items state.0 ≡ Some original) (successors : List StateIndex)
+module _ (merge : Merge) (ready : IsMerging merge) (state : StateIndex) (w : HasOriginalRow merge state) (original : ℕ) (at : slice_get merge.originals.items state.0 ≡ Some original) (successors : List StateIndex)
     (exactly : (right : StateIndex) → Contains successors right ↔ IsSuccessor merge.table.now (index original) right) where
   abbrev joins : List Join
   joins = reverse (joins_to state successors)

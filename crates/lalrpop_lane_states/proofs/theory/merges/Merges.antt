@@ -15,10 +15,10 @@ use mathlib.Core.Bool.{true≢false}
 use Rattle.lalrpop_collections.proofs.theory.lists.Lists.{contains_of_map}
 use Rattle.lalrpop_lanes.specs.Words.{Rows, ColumnsOverlap, HasRow, IsClosed, IsRow, IsSuccessor, RowOverlaps}
 use Rattle.lalrpop_state_graph.specs.Words.{index}
-use Rattle.lalrpop_lane_states.specs.Words.{IsVisited, IsContext, IsMerging, IsWalked, Advances, HasEdge, IsLedTo, unset, unvisited}
+use Rattle.lalrpop_lane_states.specs.Words.{IsVisited, IsContext, IsMerging, HasOriginalRow, Advances, HasEdge, IsRedirected, unset, unvisited}
 use Rattle.lalrpop_state_graph.specs.Words.{AreCopies}
 use Rattle.lalrpop_lane_states.specs.Words.{AreUnited, IsJoinedCopy, IsApart, set_of, context_of, HasSet, AreJoined, OwnSets}
-use Rattle.lalrpop_lane_states.specs.merges.Merges.{LeadsTo}
+use Rattle.lalrpop_lane_states.specs.merges.Merges.{OriginalLeadsTo}
 use Rattle.lalrpop_lane_states.specs.declared.lane_table.construct.merge.Merge.{Merge}
 use Rattle.lalrpop_lane_states.specs.declared.lane_table.construct.merge.context_sets.ContextSets.{ContextSets}
 use Rattle.lalrpop_lanes.specs.declared.lane_table.table.LaneTable.{LaneTable}
@@ -124,45 +124,45 @@ advances_on a b c x y = record {
 pub row_on : (old new : Merge) → Advances old new → (s : StateIndex) → HasRow old.table.now s → HasRow new.table.now s
 row_on old new a s row = subst (λ (t : Bor LaneTable). HasRow t.now s) (sym a.table) row
 
-pub walked_on : (old new : Merge) → Advances old new → (s : StateIndex) → IsWalked old s → IsWalked new s
+pub walked_on : (old new : Merge) → Advances old new → (s : StateIndex) → HasOriginalRow old s → HasOriginalRow new s
 walked_on old new a s w = record { original = w.original; there = a.originals s.0 w.original w.there; row = row_on old new a (index w.original) w.row }
 
-pub leads_on : (old new : Merge) → Advances old new → (state successor : StateIndex) → IsWalked old state → LeadsTo old state successor → LeadsTo new state successor
+pub leads_on : (old new : Merge) → Advances old new → (state successor : StateIndex) → HasOriginalRow old state → OriginalLeadsTo old state successor → OriginalLeadsTo new state successor
 leads_on old new a state successor w leads o at =
     let same : w.original ≡ o = same_some w.original o (sym (a.originals state.0 w.original w.there) ∙ at) in
     subst (λ n. IsSuccessor new.table.now (index n) successor) same (subst (λ (t : Bor LaneTable). IsSuccessor t.now (index w.original) successor) (sym a.table) (leads w.original w.there))
 
 -- a successor is a state of the table, and is its own original
-module _ (merge : Merge) (ready : IsMerging merge) (state successor : StateIndex) (w : IsWalked merge state) (leads : LeadsTo merge state successor) where
+module _ (merge : Merge) (ready : IsMerging merge) (state successor : StateIndex) (w : HasOriginalRow merge state) (leads : OriginalLeadsTo merge state successor) where
   pub successor_row : HasRow merge.table.now successor
   successor_row = ready.closed (index w.original) successor (leads w.original w.there)
 
   pub successor_own : slice_get merge.originals.items successor.0 ≡ Some successor.0
   successor_own = ready.rows successor successor_row
 
-  pub successor_walked : IsWalked merge successor
+  pub successor_walked : HasOriginalRow merge successor
   successor_walked = record { original = successor.0; there = successor_own; row = successor_row }
 
-pub row_walked : (merge : Merge) → IsMerging merge → (state : StateIndex) → HasRow merge.table.now state → IsWalked merge state
+pub row_walked : (merge : Merge) → IsMerging merge → (state : StateIndex) → HasRow merge.table.now state → HasOriginalRow merge state
 row_walked merge ready state row = record { original = state.0; there = ready.rows state row; row = row }
 
 -- a copy of a state with a row can be walked from
-pub copy_walked : (merge : Merge) (successor copy : StateIndex) → HasRow merge.table.now successor → slice_get merge.originals.items copy.0 ≡ Some successor.0 → IsWalked merge copy
+pub copy_walked : (merge : Merge) (successor copy : StateIndex) → HasRow merge.table.now successor → slice_get merge.originals.items copy.0 ≡ Some successor.0 → HasOriginalRow merge copy
 copy_walked merge successor copy row at = record { original = successor.0; there = at; row = row }
 
-pub walked_listed : (merge : Merge) → IsMerging merge → (s : StateIndex) → IsWalked merge s → s.0 < length merge.states.items
+pub walked_listed : (merge : Merge) → IsMerging merge → (s : StateIndex) → HasOriginalRow merge s → s.0 < length merge.states.items
 walked_listed merge ready s w = let l : s.0 < length merge.originals.items = slice_get_within merge.originals.items s.0 w.original w.there in let e = ready.copies.counted in omega arith
 
-pub walked_set : (merge : Merge) → IsMerging merge → (s : StateIndex) → IsWalked merge s → HasSet merge.context_sets s
+pub walked_set : (merge : Merge) → IsMerging merge → (s : StateIndex) → HasOriginalRow merge s → HasSet merge.context_sets s
 walked_set merge ready s w = ready.sets s.0 w.original w.there w.row
 
-pub walked_context : (merge : Merge) → IsMerging merge → (s : StateIndex) → IsWalked merge s → IsContext merge.table.now (context_of merge.context_sets s)
+pub walked_context : (merge : Merge) → IsMerging merge → (s : StateIndex) → HasOriginalRow merge s → IsContext merge.table.now (context_of merge.context_sets s)
 walked_context merge ready s w =
     let h = walked_set merge ready s w in
     let c = filled merge.context_sets.contexts.items h.set.index h.listed in
     subst (IsContext merge.table.now) (sym (columns_at merge.context_sets s h.set c.0 h.is c.1)) (ready.contexts h.set.index c.0 c.1)
 
-pub contexts_counted : (merge : Merge) → IsMerging merge → (s t : StateIndex) → IsWalked merge s → IsWalked merge t → length (context_of merge.context_sets s) ≡ length (context_of merge.context_sets t)
+pub contexts_counted : (merge : Merge) → IsMerging merge → (s t : StateIndex) → HasOriginalRow merge s → HasOriginalRow merge t → length (context_of merge.context_sets s) ≡ length (context_of merge.context_sets t)
 contexts_counted merge ready s t w v = (walked_context merge ready s w).counted ∙ sym (walked_context merge ready t v).counted
 
 -- a join that was made stays
@@ -174,7 +174,7 @@ module _ (old new : Merge) (ready : IsMerging old) (a : Advances old new) where
   copy_on n o right copy at j = record { original = a.originals copy.0 right.0 j.original; together = a.sets n copy.0 (listed n o at) (listed copy.0 right.0 j.original) j.together }
 
   -- no edge comes to lead to the successor
-  pub led_on : (n o : ℕ) (right copy : StateIndex) → slice_get old.originals.items n ≡ Some o → slice_get old.originals.items right.0 ≡ Some right.0 → IsLedTo old (index n) right copy → IsLedTo new (index n) right copy
+  pub led_on : (n o : ℕ) (right copy : StateIndex) → slice_get old.originals.items n ≡ Some o → slice_get old.originals.items right.0 ≡ Some right.0 → IsRedirected old (index n) right copy → IsRedirected new (index n) right copy
   led_on n o right copy at own led other h = led other (a.edges n right.0 (listed n o at) own h)
 
 -- ---- other sets
@@ -199,7 +199,7 @@ module _ (old : Merge) (ready : IsMerging old) (sets : ContextSets) where
   pub sets_advance : IsMerging with_sets → ((n m : ℕ) → n < length old.states.items → m < length old.states.items → set_of old.context_sets (index n) ≡ set_of old.context_sets (index m) → set_of sets (index n) ≡ set_of sets (index m)) → Advances old with_sets
   sets_advance new_ready kept = record { ready = new_ready; table = refl; start = refl; longer = omega arith; counted = refl; originals = λ n o e. e; copies = λ exact handed c. c; sets = kept; marks = λ n h. h; edges = λ n m l own h. h }
 
-  module _ (source target : StateIndex) (w : IsWalked old source) (v : IsWalked old target) where
+  module _ (source target : StateIndex) (w : HasOriginalRow old source) (v : HasOriginalRow old target) where
     joined_advance : AreJoined source target old.context_sets sets → Advances old with_sets
     joined_advance j = sets_advance
         (sets_ready
@@ -256,16 +256,16 @@ marked_advance merge visited ready counted marks = record {
 abbrev pub marked : Merge → StateIndex → Merge
 marked merge s = record merge { visited = with_item merge.visited s.0 true }
 
-pub mark_listed : (merge : Merge) → IsMerging merge → (s : StateIndex) → IsWalked merge s → s.0 < length merge.visited.items
+pub mark_listed : (merge : Merge) → IsMerging merge → (s : StateIndex) → HasOriginalRow merge s → s.0 < length merge.visited.items
 mark_listed merge ready s w = let l = walked_listed merge ready s w in let v = ready.visited in omega arith
 
-pub mark_advance : (merge : Merge) (s : StateIndex) → IsMerging merge → IsWalked merge s → Advances merge (marked merge s)
+pub mark_advance : (merge : Merge) (s : StateIndex) → IsMerging merge → HasOriginalRow merge s → Advances merge (marked merge s)
 mark_advance merge s ready w = marked_advance merge (with_item merge.visited s.0 true) ready (set_length merge.visited.items s.0 true) (λ n h. elim (cases_eq n s.0) [
   | inl here ↦ ap (slice_get (slice_set merge.visited.items s.0 true)) here ∙ set_here merge.visited.items s.0 true (mark_listed merge ready s w)
   | inr other ↦ set_elsewhere merge.visited.items s.0 n true other ∙ h
 ])
 
-pub mark_there : (merge : Merge) (s : StateIndex) → IsMerging merge → IsWalked merge s → IsVisited (marked merge s) s.0
+pub mark_there : (merge : Merge) (s : StateIndex) → IsMerging merge → HasOriginalRow merge s → IsVisited (marked merge s) s.0
 mark_there merge s ready w = set_here merge.visited.items s.0 true (mark_listed merge ready s w)
 
 pub mark_cases : (merge : Merge) (s : StateIndex) (n : ℕ) → IsVisited (marked merge s) n → IsVisited merge n ⊎ (n ≡ s.0)
@@ -337,7 +337,7 @@ pub merging_coherent : (merge : Merge) → IsMerging merge → AreCoherent merge
 merging_coherent merge ready = copies_coherent false ready.handed merge.originals.items merge.states.items ready.copies
 
 -- ---- a copy that is apart
-pub apart_copy : (merge : Merge) (ready : IsMerging merge) (state copy successor : StateIndex) (original : ℕ) → (w : IsWalked merge state) → slice_get merge.originals.items state.0 ≡ Some original → LeadsTo merge state successor → IsRow merge.table.now successor (context_of merge.context_sets copy) → MeetInUnion (context_of merge.context_sets state) (context_of merge.context_sets copy) → IsApart merge.table.now (index original) successor
+pub apart_copy : (merge : Merge) (ready : IsMerging merge) (state copy successor : StateIndex) (original : ℕ) → (w : HasOriginalRow merge state) → slice_get merge.originals.items state.0 ≡ Some original → OriginalLeadsTo merge state successor → IsRow merge.table.now successor (context_of merge.context_sets copy) → MeetInUnion (context_of merge.context_sets state) (context_of merge.context_sets copy) → IsApart merge.table.now (index original) successor
 apart_copy merge ready state copy successor original w at leads row m = record {
   successor = leads original at;
   first = m.index;

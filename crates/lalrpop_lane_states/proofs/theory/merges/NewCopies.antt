@@ -8,7 +8,7 @@ use Rattle.lalrpop_lane_states.proofs.Types.{State, StateIndex}
 use Rattle.lalrpop_lanes.specs.Words.{HasRow, IsRow, IsSuccessor, RowOverlaps}
 use Rattle.lalrpop_state_graph.specs.Words.{index, AreCopies}
 use Rattle.lalrpop_lane_states.specs.Words.{IsVisited, HaveNoNewMarks, IsContext, IsMerging, HasEdge, KeepsStates}
-use Rattle.lalrpop_lane_states.specs.Words.{Advances, unset, IsPushed, IsLonger, IsFresh, set_of, context_of, HasSet, IsMade, AddsColumns}
+use Rattle.lalrpop_lane_states.specs.Words.{Advances, unset, IsPushed, IsLonger, IsFreshCopy, set_of, context_of, HasSet, IsMade, AddsColumns}
 use Rattle.lalrpop_lane_states.specs.declared.lane_table.construct.merge.Merge.{Merge}
 use Rattle.lalrpop_lane_states.specs.declared.lane_table.construct.merge.context_sets.ContextSets.{ContextSets}
 use Rattle.lalrpop_lanes.specs.declared.lane_table.table.LaneTable.{LaneTable}
@@ -139,7 +139,7 @@ module _ (old : Merge) (ready : IsMerging old) (state copy : StateIndex) (row : 
       pub pushed_marks : HaveNoNewMarks old new
       pushed_marks n h = unmarked_push old.visited.items n (ap (λ (ms : List Bool). slice_get ms n) (sym p.visited) ∙ h)
 
-      pub pushed_fresh : IsFresh state copy old new
+      pub pushed_fresh : IsFreshCopy state copy old new
       pushed_fresh = record {
         original = ap (slice_get new.originals.items) (numbered ∙ sym ready.copies.counted) ∙ ap (λ (xs : List ℕ). slice_get xs (length old.originals.items)) p.originals ∙ slice_get-push_at old.originals.items state.0;
         row = subst (λ (t : Bor LaneTable). IsRow t.now state (context_of new.context_sets copy)) (sym p.table) (subst (λ (s : ContextSets). IsRow old.table.now state (context_of s copy)) (sym p.sets) (subst (IsRow old.table.now state) (sym made.own) is_row));

@@ -3,7 +3,7 @@ ghost use Rattle.std.specs.Prelude.{◌≡◌, ◌<◌, ◌+◌, ℕ, false, len
 ghost use Rattle.lalrpop_base.specs.Words.{rules_of};
 ghost use Rattle.lalrpop_lane_states.specs.lane_states.LaneStates.{AreLaneStates, IsReadyToConstruct};
 ghost use Rattle.lalrpop_lane_states.specs.lane_states.Lr0Copies.{AreLr0Copies};
-ghost use Rattle.lalrpop_lane_states.specs.lane_states.Resolving.{AreResolvedUpTo, HasOverlap, IsResolving, IsTried};
+ghost use Rattle.lalrpop_lane_states.specs.lane_states.Resolving.{AreResolvedUpTo, HasOverlap, IsResolving, IsResolveStep};
 
 use super::LaneTableConstruct;
 use super::actions::actions_of;
@@ -74,7 +74,8 @@ impl<'grammar> LaneTableConstruct<'grammar> {
         ensures total { IfOk result (λ answer.
             answer.0.copies_left + length answer.0.states.items ≡
             copying.entry.copies_left + length copying.entry.states.items) }
-        ensures tried { IfOk result (λ answer. IsTried index answer.1 copying.entry.states.items
+        ensures tried { IfOk result
+            (λ answer. IsResolveStep index answer.1 copying.entry.states.items
             answer.0.states.items) }
         ensures overlap { IfOk result (λ answer. answer.1 ≡ false → HasOverlap
             (rules_of self.now.grammar.now) self.now.start self.now.max_copies index) }

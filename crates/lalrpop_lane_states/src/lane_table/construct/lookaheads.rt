@@ -2,7 +2,7 @@
 ghost use Rattle.std.specs.Prelude.{◌≡◌, ◌<◌, length, IfOk, MatchBool};
 ghost use Rattle.lalrpop_base.specs.Words.{contents, productions, rules_of};
 ghost use Rattle.lalrpop_lane_states.specs.lane_states.FoundLookaheads.{IsFoundAt, with_sets};
-ghost use Rattle.lalrpop_lane_states.specs.lane_states.LaneStates.{AreLaneStates, IsResolvedAt, IsStep};
+ghost use Rattle.lalrpop_lane_states.specs.lane_states.LaneStates.{AreLaneStates, IsResolvedAt, IsStateStep};
 ghost use Rattle.lalrpop_follow_sets.specs.lanes.LaneTokens.{LanesMeet};
 
 use super::LaneTableConstruct;
@@ -11,7 +11,7 @@ use lalrpop_base::lr1_core::state::Lr1State;
 use lalrpop_base::memory::OutOfMemory;
 use lalrpop_base::repr::Production;
 use lalrpop_construction::construction::numbered_state::NumberedState;
-use lalrpop_follow_sets::follow_sets::{Found, share_token};
+use lalrpop_follow_sets::follow_sets::{FollowSets, share_token};
 use std::alloc::Global;
 
 // The reductions, each with the set at its place.
@@ -39,7 +39,7 @@ impl<'grammar> LaneTableConstruct<'grammar> {
         alloc: Global,
         states: &mut Vec<Lr1State<'grammar>>,
         index: usize,
-        found: &Found,
+        found: &FollowSets,
         numbered: &NumberedState,
     ) -> Result<bool, OutOfMemory>
         requires lanes { AreLaneStates (rules_of self.now.grammar.now) self.now.start
@@ -47,7 +47,7 @@ impl<'grammar> LaneTableConstruct<'grammar> {
         requires listed { index < length states.old.items }
         requires found { IsFoundAt (rules_of self.now.grammar.now) self.now.start
             states.old.items index found.now numbered.now }
-        ensures step { IfOk result (λ _. IsStep index states.old.items states.new.items) }
+        ensures step { IfOk result (λ _. IsStateStep index states.old.items states.new.items) }
         ensures resolved { IfOk result (λ done. MatchBool done
             (IsResolvedAt (rules_of self.now.grammar.now) self.now.start states.old.items index
             states.new.items) (LanesMeet (productions self.now.grammar.now) self.now.start

@@ -8,7 +8,7 @@ ghost use Rattle.lalrpop_states.specs.declared.lr1_core.state.StateIndex.{StateI
 ghost use Rattle.lalrpop_lanes.specs.lane_tables.LaneTables.{HasRow, IsClosed, IsRow};
 ghost use Rattle.lalrpop_lane_states.specs.merges.Merges.{Advances, HaveWalked, IsMerging, IsPatchable, IsVisited};
 ghost use Rattle.lalrpop_state_graph.specs.graphs.Copies.{AreCopies};
-ghost use Rattle.lalrpop_lane_states.specs.lane_states.Resolving.{IsCopied, IsTried};
+ghost use Rattle.lalrpop_lane_states.specs.lane_states.Resolving.{IsCopied, IsResolveStep};
 ghost use Rattle.lalrpop_state_graph.specs.graphs.StateGraph.{edges, IsGraphOf};
 
 use super::copying::Copying;
@@ -39,7 +39,7 @@ pub(super) fn merge_along<'grammar>(
     requires among { (before : State Bits) →
         slice_get copying.states.items state.0 ≡ Some before → AreAmong actions.now.keys before }
     ensures copied { IfOk result (λ answer. IsCopied copying.entry answer.0) }
-    ensures tried { IfOk result (λ answer. IsTried state.0 answer.1 copying.entry.states.items
+    ensures tried { IfOk result (λ answer. IsResolveStep state.0 answer.1 copying.entry.states.items
         answer.0.states.items) }
 {
     match table.rows(alloc) {
@@ -71,7 +71,7 @@ fn merge_states<'grammar>(
     requires among { (before : State Bits) →
         slice_get copying.states.items state.0 ≡ Some before → AreAmong actions.now.keys before }
     ensures copied { IfOk result (λ answer. IsCopied copying.entry answer.0) }
-    ensures tried { IfOk result (λ answer. IsTried state.0 answer.1 copying.entry.states.items
+    ensures tried { IfOk result (λ answer. IsResolveStep state.0 answer.1 copying.entry.states.items
         answer.0.states.items) }
 {
     let beachheads = table.beachhead_states(alloc)?;
@@ -111,7 +111,7 @@ fn walk_and_patch<'grammar>(
         merge.old.copies_left + length merge.old.states.items) }
     ensures visited { IfOk result (λ resolved. IsTrue resolved → (state : Number) →
         Contains beachheads.now.keys state → IsVisited merge.new state.0) }
-    ensures tried { IfOk result (λ resolved. IsTried merge.old.inconsistent_state.0 resolved
+    ensures tried { IfOk result (λ resolved. IsResolveStep merge.old.inconsistent_state.0 resolved
         merge.old.states.items merge.new.states.items) }
 {
     match walk_all(alloc, merge, beachheads) {

@@ -12,7 +12,7 @@ use lalrpop_base::memory::OutOfMemory;
 use lalrpop_base::numbers::Numbers;
 use lalrpop_construction::construction::numbered_state::NumberedState;
 use lalrpop_construction::construction::states::NumberedStates;
-use lalrpop_follow_sets::follow_sets::Found;
+use lalrpop_follow_sets::follow_sets::FollowSets;
 use std::alloc::Global;
 
 impl<'grammar> LaneTableConstruct<'grammar> {
@@ -63,7 +63,7 @@ impl<'grammar> LaneTableConstruct<'grammar> {
     {
         let grammar = self.grammar;
         let _terminals = grammar.terminals.all();
-        let found = Found::new(alloc, grammar, &self.start, states, numbers, numbered)?;
+        let found = FollowSets::new(alloc, grammar, &self.start, states, numbers, numbered)?;
         let count = states.len();
         for index in 0..count {
             if !self.resolve_state(alloc, states, index, &found, &numbered[index])? {

@@ -6,7 +6,7 @@ use Rattle.std.proofs.lemmas.Bool.{cases_Bool}
 use Rattle.std.proofs.lemmas.Option.{slice_get_within}
 use Rattle.lalrpop_base.specs.Words.{Bits, has, no_bits, with_bit, has-with_bit, has-no_bits, both, IsFirstSet, IsFirst, IsNullable, Dotted, Rules, Visits}
 use Rattle.lalrpop_lanes.proofs.Types.{NonterminalString, StateIndex, Symbol}
-use Rattle.lalrpop_lanes.specs.Words.{Gains, Nothing, IsHere, IsEnd, IsEndBit, IsParent, IsFollowBit, IsPassedOn, IsPlaceIf, rest_of, AddsTokens}
+use Rattle.lalrpop_lanes.specs.Words.{Gains, Nothing, IsHere, IsEnd, IsEndBit, IsParent, IsFollowBit, IsPassedOn, IsPlaceIf, symbols_after_next, AddsTokens}
 use Rattle.lalrpop_states.specs.declared.lr1_core.place.Place.{Place}
 use Rattle.lalrpop_collections.specs.declared.collections.walk.Walk.{Walk}
 use Rattle.lalrpop_lanes.specs.declared.lane_table.table.LaneTable.{LaneTable}
@@ -45,7 +45,7 @@ module _ (g : Rules) {L : Type 0} (name : NonterminalString) (item : Dotted L) w
   pub no_passed : (state : ℕ) (walk : Walk Place) → (IsParent name item → ⊥) → Visits (IsPassedOn g name state item) walk walk
   no_passed state walk other = Visits-none (IsPassedOn g name state item) walk (λ k h. other h.parent)
 
-  module _ (parent : IsParent name item) (rest : List Symbol) (same : rest ≡ rest_of item) (first left : Bits) (is : IsFirstSet g rest first) where
+  module _ (parent : IsParent name item) (rest : List Symbol) (same : rest ≡ symbols_after_next item) (first left : Bits) (is : IsFirstSet g rest first) where
     -- the terminals of the set are those that can follow
     follow_bits : ((bit : ℕ) → has left bit ≡ (has first bit && not (bit == length g.terminals))) → (bit : ℕ) → has left bit ≡ true ↔ IsFollowBit g name item bit
     follow_bits taken bit = (

@@ -16,8 +16,8 @@ use Rattle.std.specs.BTreeSet.{BTreeSet as SortedSet}
 use Rattle.lalrpop_base.specs.Words.{Bits}
 use Rattle.lalrpop_lanes.specs.Words.{AreDisjoint}
 use Rattle.lalrpop_lanes.proofs.Types.{StateIndex}
-use Rattle.lalrpop_lanes.specs.Words.{Cells, AreGathered, ThisRow, Rows, row_at, StandsFor, MakesRow, JoinsRow, MeetsRow, HasCells, AreRowsOf}
-use Rattle.lalrpop_lanes.specs.Words.{Successors, HasNext, AddsRows, column, IsRow, RowOverlaps, HasRow}
+use Rattle.lalrpop_lanes.specs.Words.{Cells, AreGathered, ThisRow, Rows, row_at, AreColumnsOf, MakesRow, JoinsRow, MeetsRow, HasCells, AreRowsOf}
+use Rattle.lalrpop_lanes.specs.Words.{Successors, HasSuccessor, AddsRows, column, IsRow, RowOverlaps, HasRow}
 use Rattle.lalrpop_state_graph.specs.Words.{state_cmp}
 use Rattle.lalrpop_lanes.specs.declared.lane_table.context_set.ConflictIndex.{ConflictIndex}
 use Rattle.lalrpop_lanes.specs.declared.lane_table.table.LaneTable.{LaneTable}
@@ -46,18 +46,18 @@ module _ (count : ℕ) (done : Cells) (rows new : Rows) (state : StateIndex) (in
   old_row : (length j.before ≡ count) × AreGathered (ThisRow state) done j.before
   old_row = are.each state j.before j.was
 
-  here : (row : List Bits) → StandsFor count (row_at new state) row → (length row ≡ count) × AreGathered (ThisRow state) (done ++ ((state, index), tokens) ∷ []) row
+  here : (row : List Bits) → AreColumnsOf count (row_at new state) row → (length row ≡ count) × AreGathered (ThisRow state) (done ++ ((state, index), tokens) ∷ []) row
   here row stands =
-      let is : row ≡ j.after = subst (λ (o : Option (List Bits)). StandsFor count o row) j.there stands in
+      let is : row ≡ j.after = subst (λ (o : Option (List Bits)). AreColumnsOf count o row) j.there stands in
       subst (λ (r : List Bits). (length r ≡ count) × AreGathered (ThisRow state) (done ++ ((state, index), tokens) ∷ []) r) (sym is)
       (j.joined.counted ∙ old_row.0, gathered_more (ThisRow state) done j.before old_row.1 state index tokens j.after refl (subst (λ n. index.index < n) (sym old_row.0) within) j.joined j.apart)
 
-  each_more : (q : StateIndex) (row : List Bits) → StandsFor count (row_at new q) row → (length row ≡ count) × AreGathered (ThisRow q) (done ++ ((state, index), tokens) ∷ []) row
+  each_more : (q : StateIndex) (row : List Bits) → AreColumnsOf count (row_at new q) row → (length row ≡ count) × AreGathered (ThisRow q) (done ++ ((state, index), tokens) ∷ []) row
   each_more q row stands = ⊎_elim
       (λ tied. let same : state ≡ q = tied_is state q tied in
       subst (λ (x : StateIndex). (length row ≡ count) × AreGathered (ThisRow x) (done ++ ((state, index), tokens) ∷ []) row) same
-      (here row (subst (λ (x : StateIndex). StandsFor count (row_at new x) row) (sym same) stands)))
-      (λ apart. let was = are.each q row (subst (λ (o : Option (List Bits)). StandsFor count o row) (j.others q apart) stands) in
+      (here row (subst (λ (x : StateIndex). AreColumnsOf count (row_at new x) row) (sym same) stands)))
+      (λ apart. let was = are.each q row (subst (λ (o : Option (List Bits)). AreColumnsOf count o row) (j.others q apart) stands) in
       (was.0, gathered_past (ThisRow q) done row was.1 state index tokens (apart_not state q apart)))
       (cases_Bool (is_eq (state_cmp state q)))
 
@@ -89,7 +89,7 @@ pub taken_start : (count : ℕ) (all : Cells) → AreTaken count all all []
 taken_start count all = record { done = []; whole = refl; are = rows_start count }
 
 pub taken_counted : (count : ℕ) (left all : Cells) (rows : Rows) → AreTaken count left all rows → (state : StateIndex) (row : List Bits) → row_at rows state ≡ Some row → length row ≡ count
-taken_counted count left all rows t state row e = (t.are.each state row (subst (λ (o : Option (List Bits)). StandsFor count o row) (sym e) refl)).0
+taken_counted count left all rows t state row e = (t.are.each state row (subst (λ (o : Option (List Bits)). AreColumnsOf count o row) (sym e) refl)).0
 
 module _ (count : ℕ) (before left all : Cells) (rows : Rows) (t : AreTaken count before all rows) (state : StateIndex) (index : ConflictIndex) (tokens : Bits) (first : before ≡ ((state, index), tokens) ∷ left) where
   more_whole : (t.done ++ ((state, index), tokens) ∷ []) ++ left ≡ all
@@ -143,14 +143,14 @@ none_smaller count before left all rows t state index tokens first rises table e
     let at_first : Contains t.done ((smaller, column o.first), o.here.0) = taken_before t.done left all state index tokens whole rises smaller o.first o.here.0 l (subst (λ (es : Cells). Contains es ((smaller, column o.first), o.here.0)) e o.here.1) in
     let at_second : Contains t.done ((smaller, column o.second), o.there.0) = taken_before t.done left all state index tokens whole rises smaller o.second o.there.0 l (subst (λ (es : Cells). Contains es ((smaller, column o.second), o.there.0)) e o.there.1) in
     let r = t.are.all smaller (o.first, (o.here.0, at_first)) in
-    let g = (t.are.each smaller r.0 (subst (λ (p : Option (List Bits)). StandsFor count p r.0) (sym r.1) refl)).1 in
+    let g = (t.are.each smaller r.0 (subst (λ (p : Option (List Bits)). AreColumnsOf count p r.0) (sym r.1) refl)).1 in
     o.apart (g.disjoint o.first o.second o.bit ((g.tokens o.first o.bit).1 (smaller, refl, (o.here.0, at_first, o.here.2))) ((g.tokens o.second o.bit).1 (smaller, refl, (o.there.0, at_second, o.there.2))))
 
 -- ---- rows for states with successors
-pub next_more : (done : Successors) (e : StateIndex × SortedSet StateIndex) (left right : StateIndex) → HasNext done left right → HasNext (done ++ e ∷ []) left right
+pub next_more : (done : Successors) (e : StateIndex × SortedSet StateIndex) (left right : StateIndex) → HasSuccessor done left right → HasSuccessor (done ++ e ∷ []) left right
 next_more done e left right h = (h.0, Contains-append_left done (e ∷ []) _ h.1, h.2)
 
-pub next_last : (done : Successors) (e : StateIndex × SortedSet StateIndex) (left right : StateIndex) → HasNext (done ++ e ∷ []) left right → HasNext done left right ⊎ ((e.0 ≡ left) × Contains e.1.keys right)
+pub next_last : (done : Successors) (e : StateIndex × SortedSet StateIndex) (left right : StateIndex) → HasSuccessor (done ++ e ∷ []) left right → HasSuccessor done left right ⊎ ((e.0 ≡ left) × Contains e.1.keys right)
 next_last done e left right h = ⊎_elim
     (λ was. inl (h.0, was, h.2))
     (λ later. ⊎_elim
@@ -175,15 +175,15 @@ pub adds_more : (count : ℕ) (done : Successors) (old rows new : Rows) (state :
 adds_more count done old rows new state set next a there m = record {
   kept = λ q row e. let was = a.kept q row e in ⊎_elim
       (λ tied. let same : state ≡ q = tied_is state q tied in
-      let is : m.row ≡ row = subst (λ (o : Option (List Bits)). StandsFor count o m.row) (ap (row_at rows) same ∙ was) m.was in
+      let is : m.row ≡ row = subst (λ (o : Option (List Bits)). AreColumnsOf count o m.row) (ap (row_at rows) same ∙ was) m.was in
       ap (row_at new) (sym same) ∙ m.there ∙ ap Some is)
       (λ apart. m.others q apart ∙ was)
       (cases_Bool (is_eq (state_cmp state q)));
   from = λ q row e. ⊎_elim
       (λ tied. let same : state ≡ q = tied_is state q tied in
       let is : row ≡ m.row = same_some row m.row (sym e ∙ ap (row_at new) (sym same) ∙ m.there) in
-      subst (λ (x : StateIndex). StandsFor count (row_at old x) row × ((row_at old x ≡ Some row) ⊎ ((right : StateIndex) × HasNext (done ++ (state, set) ∷ []) x right))) same
-      (subst (λ (r : List Bits). StandsFor count (row_at old state) r × ((row_at old state ≡ Some r) ⊎ ((right : StateIndex) × HasNext (done ++ (state, set) ∷ []) state right))) (sym is)
+      subst (λ (x : StateIndex). AreColumnsOf count (row_at old x) row × ((row_at old x ≡ Some row) ⊎ ((right : StateIndex) × HasSuccessor (done ++ (state, set) ∷ []) x right))) same
+      (subst (λ (r : List Bits). AreColumnsOf count (row_at old state) r × ((row_at old state ≡ Some r) ⊎ ((right : StateIndex) × HasSuccessor (done ++ (state, set) ∷ []) state right))) (sym is)
       (made (row_at rows state) refl, inr (next, (set, Contains-append_right done ((state, set) ∷ []) _ (contains_head (state, set) []), there)))))
       (λ apart. let f = a.from q row (sym (m.others q apart) ∙ e) in (f.0, ⊎_elim (λ was. inl was) (λ n. inr (n.0, next_more done (state, set) q n.0 n.1)) f.1))
       (cases_Bool (is_eq (state_cmp state q)));
@@ -196,13 +196,13 @@ adds_more count done old rows new state set next a there m = record {
       (cases_Bool (is_eq (state_cmp state left)));
 }
   where
-    none_before : (o : Option (List Bits)) → row_at old state ≡ o → row_at rows state ≡ None → StandsFor count None m.row → StandsFor count o m.row
+    none_before : (o : Option (List Bits)) → row_at old state ≡ o → row_at rows state ≡ None → AreColumnsOf count None m.row → AreColumnsOf count o m.row
     none_before None e f s = s
     none_before (Some row) e f s = let g = a.kept state row e in cc
 
-    made : (o : Option (List Bits)) → row_at rows state ≡ o → StandsFor count (row_at old state) m.row
-    made None e = none_before (row_at old state) refl e (subst (λ (o : Option (List Bits)). StandsFor count o m.row) e m.was)
-    made (Some row) e = let is : m.row ≡ row = subst (λ (o : Option (List Bits)). StandsFor count o m.row) e m.was in subst (λ (r : List Bits). StandsFor count (row_at old state) r) (sym is) (a.from state row e).0
+    made : (o : Option (List Bits)) → row_at rows state ≡ o → AreColumnsOf count (row_at old state) m.row
+    made None e = none_before (row_at old state) refl e (subst (λ (o : Option (List Bits)). AreColumnsOf count o m.row) e m.was)
+    made (Some row) e = let is : m.row ≡ row = subst (λ (o : Option (List Bits)). AreColumnsOf count o m.row) e m.was in subst (λ (r : List Bits). AreColumnsOf count (row_at old state) r) (sym is) (a.from state row e).0
 
 -- the rows of the successors before those that are left
 pub record AreAdding (count : ℕ) (left all : Successors) (old new : Rows) : Type 0 where
@@ -247,7 +247,7 @@ module _ (table : LaneTable) (rows new : Rows) (are : AreRowsOf table.conflicts 
 -- a state that has a row keeps it
 made_at : (count : ℕ) (state : StateIndex) (rows : Rows) (o : Option (List Bits)) → row_at rows state ≡ o → is_some o ≡ true → MakesRow count state rows rows
 made_at count state rows None e h = cc
-made_at count state rows (Some row) e h = record { row = row; there = e; was = subst (λ (o : Option (List Bits)). StandsFor count o row) (sym e) refl; others = λ q apart. refl }
+made_at count state rows (Some row) e h = record { row = row; there = e; was = subst (λ (o : Option (List Bits)). AreColumnsOf count o row) (sym e) refl; others = λ q apart. refl }
 
 pub made_already : (count : ℕ) (state : StateIndex) (rows : Rows) → is_some (row_at rows state) ≡ true → MakesRow count state rows rows
 made_already count state rows h = made_at count state rows (row_at rows state) refl h

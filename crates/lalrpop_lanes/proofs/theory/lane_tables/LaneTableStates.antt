@@ -5,7 +5,7 @@ use Rattle.std.specs.BTreeSet.{BTreeSet as SortedSet, insert_key}
 use Rattle.std.proofs.lemmas.List.Elements.{Contains-append_left, Contains-append_right, Contains-push}
 use Rattle.lalrpop_base.specs.Words.{Bits}
 use Rattle.lalrpop_lanes.proofs.Types.{StateIndex}
-use Rattle.lalrpop_lanes.specs.Words.{Cells, HasCells, Successors, HasNext, AreReached, HasCellsBelow, IsClosedEdge, column, HasRow, IsBeachhead}
+use Rattle.lalrpop_lanes.specs.Words.{Cells, HasCells, Successors, HasSuccessor, AreReached, HasCellsBelow, IsClosedEdge, column, HasRow, IsBeachhead}
 use Rattle.lalrpop_state_graph.specs.Words.{AddsStates}
 use Rattle.lalrpop_lanes.specs.Words.{IsClosed, IsSuccessor}
 use Rattle.lalrpop_state_graph.specs.Words.{state_cmp}
@@ -34,7 +34,7 @@ added_more old mid new key e done a r = (
 
 -- ---- the successors of all states
 abbrev pub ReachedSoFar : List StateIndex → Successors → Type 0
-ReachedSoFar keys done = (right : StateIndex) → Contains keys right ↔ ((left : StateIndex) × HasNext done left right)
+ReachedSoFar keys done = (right : StateIndex) → Contains keys right ↔ ((left : StateIndex) × HasSuccessor done left right)
 
 pub reached_more : (keys new : List StateIndex) (state : StateIndex) (set : SortedSet StateIndex) → AddsStates set.keys keys new → (done : Successors) → ReachedSoFar keys done → ReachedSoFar new (done ++ (state, set) ∷ [])
 reached_more keys new state set a done r right = (

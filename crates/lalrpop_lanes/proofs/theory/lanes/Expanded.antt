@@ -9,8 +9,8 @@ use Rattle.lalrpop_grammar.specs.declared.repr.Symbol.TheVariants.{Nonterminal}
 use Rattle.lalrpop_collections.specs.lists.CheckSets.{IsAdded}
 use Rattle.lalrpop_lanes.specs.Words.{AddsNothing, AreExpanded, GainsOf, GivesBit, GivesCell, GivesSuccessor, KeepsAll, VisitsOf}
 use Rattle.lalrpop_construction.specs.Words.{places_in}
-use Rattle.lalrpop_lanes.specs.lanes.LaneSteps.{LeadsTo}
-use Rattle.lalrpop_lanes.specs.declared.lane_table.lane.ground.Ground.{Ground}
+use Rattle.lalrpop_lanes.specs.lanes.LaneSteps.{LeadsBackTo}
+use Rattle.lalrpop_lanes.specs.declared.lane_table.lane.automaton.Automaton.{Automaton}
 use Rattle.lalrpop_collections.specs.declared.collections.walk.Walk.{Walk}
 use Rattle.lalrpop_lanes.specs.declared.lane_table.table.LaneTable.{LaneTable}
 use Rattle.lalrpop_states.specs.declared.lr1_core.place.Place.{Place}
@@ -34,24 +34,24 @@ gives_alike : {g : List Production} {start : NonterminalString} {states : ℕ �
 gives_alike q e (behind_parent s p r dot after t c b f) = behind_parent s q r dot after t c (subst (λ (a : NonterminalString). drop dot r.symbols ≡ Nonterminal a ∷ after) e b) f
 gives_alike q e (of_start s p h) = of_start s q (sym e ∙ h)
 
-module _ {L : Type 0} (ground : Ground L) where
+module _ {L : Type 0} (automaton : Automaton L) where
   abbrev R : Rules
-  R = rules_of ground.grammar.now
+  R = rules_of automaton.grammar.now
 
   abbrev S : ℕ → Contents
-  S = places_in ground.states.now
+  S = places_in automaton.states.now
 
   abbrev Cell : Place → ℕ → Type 0
-  Cell p = GivesCell R ground.start.now S p
+  Cell p = GivesCell R automaton.start.now S p
 
   abbrev Bit : Place → ℕ → ℕ → Type 0
-  Bit p = GivesBit R ground.start.now S p
+  Bit p = GivesBit R automaton.start.now S p
 
   abbrev Successor : Place → ℕ → ℕ → Type 0
-  Successor p = GivesSuccessor R ground.start.now S p
+  Successor p = GivesSuccessor R automaton.start.now S p
 
   abbrev Led : Place → Place → Type 0
-  Led p = LeadsTo R ground.start.now S p
+  Led p = LeadsBackTo R automaton.start.now S p
 
   -- ---- one as the other
   cell_alike : (p q : Place) → AreAlike p q → (row : ℕ) → Cell p row → Cell q row
@@ -69,7 +69,7 @@ module _ {L : Type 0} (ground : Ground L) where
     here = sym a.state ∙ h.here;
     token = h.token;
     number = h.number;
-    gives = subst (λ (i : ℕ). Gives R.productions ground.start.now S row q.item.production i h.token) (sym a.right) (gives_alike q.item.production a.name h.gives);
+    gives = subst (λ (i : ℕ). Gives R.productions automaton.start.now S row q.item.production i h.token) (sym a.right) (gives_alike q.item.production a.name h.gives);
   }
 
   no_successor : (p q : Place) → AreAlike p q → (l r : ℕ) → Successor p l r → Successor q l r
@@ -86,7 +86,7 @@ module _ {L : Type 0} (ground : Ground L) where
         (to_parent q.state q.item.production k.item.production k.item.index t.after item behind t.nullable))
   ]
 
-  nothing_alike : (p q : Place) → AreAlike p q → (k : ℕ) (table : LaneTable) (walk : Walk Place) → AddsNothing ground p k table walk → AddsNothing ground q k table walk
+  nothing_alike : (p q : Place) → AreAlike p q → (k : ℕ) (table : LaneTable) (walk : Walk Place) → AddsNothing automaton p k table walk → AddsNothing automaton q k table walk
   nothing_alike p q a k table walk h =
       let b = turned p q a in
       record {
@@ -96,11 +96,11 @@ module _ {L : Type 0} (ground : Ground L) where
 
   -- ---- tables and walks that keep their contents
   module _ (k : ℕ) (a b : LaneTable) (t u : Walk Place) (tables : KeepsAll a b) (walks : (q : Place) → Contains t.visited.keys q → Contains u.visited.keys q) where
-    pub Expanded-kept : (keys : List (ℕ × NonterminalString)) → AreExpanded ground k a t keys → AreExpanded ground k b u keys
+    pub Expanded-kept : (keys : List (ℕ × NonterminalString)) → AreExpanded automaton k a t keys → AreExpanded automaton k b u keys
     Expanded-kept keys h = λ p begun c. let x = h p begun c in record { gains = Gains-again k (Cell p) (Bit p) (Successor p) a a b x.gains tables; visits = Visits-again (Led p) t t u x.visits walks }
 
   -- ---- one more
-  pub Expanded-none : (k : ℕ) (table : LaneTable) (walk : Walk Place) (keys : List (ℕ × NonterminalString)) → keys ≡ [] → AreExpanded ground k table walk keys
+  pub Expanded-none : (k : ℕ) (table : LaneTable) (walk : Walk Place) (keys : List (ℕ × NonterminalString)) → keys ≡ [] → AreExpanded automaton k table walk keys
   Expanded-none k table walk keys none = λ p begun c. absurd (Contains-none (p.state, p.item.production.nonterminal) (subst (λ (l : List (ℕ × NonterminalString)). Contains l (p.state, p.item.production.nonterminal)) none c))
 
   module _ (k : ℕ) (place : Place) (begun : place.item.index ≡ 0) (old new : List (ℕ × NonterminalString)) (added : IsAdded (place.state, place.item.production.nonterminal) old new) where
@@ -108,14 +108,14 @@ module _ {L : Type 0} (ground : Ground L) where
     key = (place.state, place.item.production.nonterminal)
 
     -- the nonterminal was in the list already
-    pub Expanded-known : Contains old key → (table : LaneTable) (walk : Walk Place) → AreExpanded ground k table walk old → AreExpanded ground k table walk new
+    pub Expanded-known : Contains old key → (table : LaneTable) (walk : Walk Place) → AreExpanded automaton k table walk old → AreExpanded automaton k table walk new
     Expanded-known before table walk h = λ p at c. elim (added.from (p.state, p.item.production.nonterminal) c) [
       | inl o ↦ h p at o
       | inr e ↦ h p at (subst (Contains old) e before)
     ]
 
     -- the trace stepped back from the place
-    pub Expanded-new : (a b : LaneTable) (t u : Walk Place) → GainsOf ground place k a b → VisitsOf ground place t u → AreExpanded ground k a t old → AreExpanded ground k b u new
+    pub Expanded-new : (a b : LaneTable) (t u : Walk Place) → GainsOf automaton place k a b → VisitsOf automaton place t u → AreExpanded automaton k a t old → AreExpanded automaton k b u new
     Expanded-new a b t u gains visits h = λ p at c. elim (added.from (p.state, p.item.production.nonterminal) c) [
       | inl o ↦ Expanded-kept k a b t u (GainsSome-all k (Cell place) (Bit place) (Successor place) a b gains).kept visits.kept old h p at o
       | inr e ↦

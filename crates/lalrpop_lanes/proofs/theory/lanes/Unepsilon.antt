@@ -8,12 +8,12 @@ use Rattle.lalrpop_lanes.proofs.Types.{NonterminalString, Production, State, Sym
 use Rattle.lalrpop_grammar.specs.declared.lookahead.token.Token.TheVariants.{Eof, Terminal as TokenOf}
 use Rattle.lalrpop_grammar.specs.declared.repr.Symbol.TheVariants.{Nonterminal}
 use Rattle.lalrpop_collections.proofs.theory.lists.Lists.{contains_of_map}
-use Rattle.lalrpop_lanes.specs.Words.{Gains, Nothing, IsHere, IsEnd, IsEndBit, IsParent, IsFollowBit, IsPassedOn, rest_of, Some_of}
+use Rattle.lalrpop_lanes.specs.Words.{Gains, Nothing, IsHere, IsEnd, IsEndBit, IsParent, IsFollowBit, IsPassedOn, symbols_after_next, Some_of}
 use Rattle.lalrpop_base.specs.Words.{at_place, Visits}
 use Rattle.lalrpop_lanes.specs.Words.{GivesCell, GivesBit, GivesSuccessor, GainsOf, GainsSome, GainsSomeOf, VisitsOf, AreInRange}
 use Rattle.lalrpop_construction.specs.Words.{places_in}
-use Rattle.lalrpop_lanes.specs.lanes.LaneSteps.{LeadsTo}
-use Rattle.lalrpop_lanes.specs.declared.lane_table.lane.ground.Ground.{Ground}
+use Rattle.lalrpop_lanes.specs.lanes.LaneSteps.{LeadsBackTo}
+use Rattle.lalrpop_lanes.specs.declared.lane_table.lane.automaton.Automaton.{Automaton}
 use Rattle.lalrpop_collections.specs.declared.collections.walk.Walk.{Walk}
 use Rattle.lalrpop_lanes.specs.declared.lane_table.table.LaneTable.{LaneTable}
 use Rattle.lalrpop_states.specs.declared.lr1_core.place.Place.{Place}
@@ -95,7 +95,7 @@ module _ {L : Type 0} (states : List (State L)) (n : ℕ) (s : State L) (there :
     pub parent : IsParent a item
     pub production : item.production ≡ q
     pub index : item.index ≡ dot
-    pub rest : rest_of item ≡ after
+    pub rest : symbols_after_next item ≡ after
 
   cut : (d : ℕ) (xs ys : List Symbol) (x : Symbol) → drop d xs ≡ x ∷ ys → drop (suc d) xs ≡ ys
   cut d xs ys x e =
@@ -124,17 +124,17 @@ module _ {L : Type 0} (states : List (State L)) (n : ℕ) (s : State L) (there :
   pub item_there : (item : Dotted L) → Contains s.items.vec.items item → Contains (places_in states n).items (item.production, item.index)
   item_there item c = subst (λ (h : Contents). Contains h.items (item.production, item.index)) (sym contents_here) (contains_map (λ (i : Dotted L). (i.production, i.index)) s.items.vec.items item c)
 
-  pub item_behind : (a : NonterminalString) (item : Dotted L) → IsParent a item → drop item.index item.production.symbols ≡ Nonterminal a ∷ rest_of item
+  pub item_behind : (a : NonterminalString) (item : Dotted L) → IsParent a item → drop item.index item.production.symbols ≡ Nonterminal a ∷ symbols_after_next item
   item_behind a item parent =
       let one : suc item.index ≡ item.index + 1 = omega arith in
       drop_split item.index item.production.symbols (Nonterminal a) parent ∙ ap (λ (m : ℕ). Nonterminal a ∷ drop m item.production.symbols) one
 
-module _ {L : Type 0} (ground : Ground L) (place : Place) (s : State L) (there : slice_get ground.states.now place.state ≡ Some s) (begun : place.item.index ≡ 0) where
+module _ {L : Type 0} (automaton : Automaton L) (place : Place) (s : State L) (there : slice_get automaton.states.now place.state ≡ Some s) (begun : place.item.index ≡ 0) where
   abbrev R : Rules
-  R = rules_of ground.grammar.now
+  R = rules_of automaton.grammar.now
 
   abbrev S : ℕ → Contents
-  S = places_in ground.states.now
+  S = places_in automaton.states.now
 
   abbrev a : NonterminalString
   a = place.item.production.nonterminal
@@ -143,56 +143,56 @@ module _ {L : Type 0} (ground : Ground L) (place : Place) (s : State L) (there :
   items = s.items.vec.items
 
   -- ---- cells
-  cell_end : (row : ℕ) → IsEnd ground.start.now a place.state row → GivesCell R ground.start.now S place row
+  cell_end : (row : ℕ) → IsEnd automaton.start.now a place.state row → GivesCell R automaton.start.now S place row
   cell_end row h = record { here = h.here; begun = begun; given = inl h.fact }
 
-  cell_parent : (row : ℕ) → Some_of (λ (i : Dotted L). IsHere place.state (IsParent a i) row) items → GivesCell R ground.start.now S place row
+  cell_parent : (row : ℕ) → Some_of (λ (i : Dotted L). IsHere place.state (IsParent a i) row) items → GivesCell R automaton.start.now S place row
   cell_parent row m = record {
     here = (m.2).here;
     begun = begun;
     given = inr (subst (λ (n : ℕ). IsBehindDot (S n) (Nonterminal a)) (m.2).here (record {
       production = (m.0).production;
       dot = (m.0).index;
-      after = rest_of m.0;
-      item = item_there ground.states.now place.state s there m.0 m.1;
-      behind = item_behind ground.states.now place.state s there a m.0 (m.2).fact;
+      after = symbols_after_next m.0;
+      item = item_there automaton.states.now place.state s there m.0 m.1;
+      behind = item_behind automaton.states.now place.state s there a m.0 (m.2).fact;
     }));
   }
 
-  cell_cases : (row : ℕ) → GivesCell R ground.start.now S place row → IsEnd ground.start.now a place.state row ⊎ Some_of (λ (i : Dotted L). IsHere place.state (IsParent a i) row) items
+  cell_cases : (row : ℕ) → GivesCell R automaton.start.now S place row → IsEnd automaton.start.now a place.state row ⊎ Some_of (λ (i : Dotted L). IsHere place.state (IsParent a i) row) items
   cell_cases row h = elim h.given [
     | inl e ↦ inl (record { here = h.here; fact = e })
     | inr b ↦
         let here : Contains (S place.state).items (b.production, b.dot) = subst (λ (n : ℕ). Contains (S n).items (b.production, b.dot)) (sym h.here) b.item in
-        let p = parent_item ground.states.now place.state s there a b.production b.dot b.after here b.behind in
+        let p = parent_item automaton.states.now place.state s there a b.production b.dot b.after here b.behind in
         inr (p.item, p.among, record { here = h.here; fact = p.parent })
   ]
 
   -- ---- bits
-  bit_end : (row bit : ℕ) → IsEndBit R ground.start.now a place.state row bit → GivesBit R ground.start.now S place row bit
+  bit_end : (row bit : ℕ) → IsEndBit R automaton.start.now a place.state row bit → GivesBit R automaton.start.now S place row bit
   bit_end row bit h = record {
     here = h.here;
     token = Eof;
     number = h.fact.1;
-    gives = subst (λ (i : ℕ). Gives R.productions ground.start.now S row place.item.production i Eof) (sym begun) (of_start row place.item.production h.fact.0);
+    gives = subst (λ (i : ℕ). Gives R.productions automaton.start.now S row place.item.production i Eof) (sym begun) (of_start row place.item.production h.fact.0);
   }
 
-  bit_parent : (row bit : ℕ) → Some_of (λ (i : Dotted L). IsHere place.state (IsFollowBit R a i bit) row) items → GivesBit R ground.start.now S place row bit
+  bit_parent : (row bit : ℕ) → Some_of (λ (i : Dotted L). IsHere place.state (IsFollowBit R a i bit) row) items → GivesBit R automaton.start.now S place row bit
   bit_parent row bit m =
       let f = (m.2).fact in
       record {
         here = (m.2).here;
         token = TokenOf f.terminal;
         number = f.number;
-        gives = subst (λ (i : ℕ). Gives R.productions ground.start.now S row place.item.production i (TokenOf f.terminal)) (sym begun)
-            (behind_parent row place.item.production (m.0).production (m.0).index (rest_of m.0) f.terminal (subst (λ (n : ℕ). Contains (S n).items ((m.0).production, (m.0).index)) (m.2).here (item_there ground.states.now place.state s there m.0 m.1)) (item_behind ground.states.now place.state s there a m.0 f.parent) f.first);
+        gives = subst (λ (i : ℕ). Gives R.productions automaton.start.now S row place.item.production i (TokenOf f.terminal)) (sym begun)
+            (behind_parent row place.item.production (m.0).production (m.0).index (symbols_after_next m.0) f.terminal (subst (λ (n : ℕ). Contains (S n).items ((m.0).production, (m.0).index)) (m.2).here (item_there automaton.states.now place.state s there m.0 m.1)) (item_behind automaton.states.now place.state s there a m.0 f.parent) f.first);
       }
 
-  bit_cases : (row bit : ℕ) → GivesBit R ground.start.now S place row bit → IsEndBit R ground.start.now a place.state row bit ⊎ Some_of (λ (i : Dotted L). IsHere place.state (IsFollowBit R a i bit) row) items
-  bit_cases row bit h = elim (gives_cases R.productions ground.start.now S h.gives) [
+  bit_cases : (row bit : ℕ) → GivesBit R automaton.start.now S place row bit → IsEndBit R automaton.start.now a place.state row bit ⊎ Some_of (λ (i : Dotted L). IsHere place.state (IsFollowBit R a i bit) row) items
+  bit_cases row bit h = elim (gives_cases R.productions automaton.start.now S h.gives) [
     | inl b ↦
         let here : Contains (S place.state).items (b.production, b.dot) = subst (λ (n : ℕ). Contains (S n).items (b.production, b.dot)) (sym h.here) b.item in
-        let p = parent_item ground.states.now place.state s there a b.production b.dot b.after here b.behind in
+        let p = parent_item automaton.states.now place.state s there a b.production b.dot b.after here b.behind in
         inr (
           p.item,
           p.among,
@@ -210,16 +210,16 @@ module _ {L : Type 0} (ground : Ground L) (place : Place) (s : State L) (there :
   ]
 
   -- ---- places
-  led_parent : (k : Place) → Some_of (λ (i : Dotted L). IsPassedOn R a place.state i k) items → LeadsTo R ground.start.now S place k
-  led_parent k m = subst (λ (z : Place). LeadsTo R ground.start.now S place z) (m.2).is
+  led_parent : (k : Place) → Some_of (λ (i : Dotted L). IsPassedOn R a place.state i k) items → LeadsBackTo R automaton.start.now S place k
+  led_parent k m = subst (λ (z : Place). LeadsBackTo R automaton.start.now S place z) (m.2).is
       (subst (λ (i : ℕ). LeadsBack R.productions S place.state place.item.production i place.state (m.0).production (m.0).index) (sym begun)
-      (to_parent place.state place.item.production (m.0).production (m.0).index (rest_of m.0) (item_there ground.states.now place.state s there m.0 m.1) (item_behind ground.states.now place.state s there a m.0 (m.2).parent) (m.2).nullable))
+      (to_parent place.state place.item.production (m.0).production (m.0).index (symbols_after_next m.0) (item_there automaton.states.now place.state s there m.0 m.1) (item_behind automaton.states.now place.state s there a m.0 (m.2).parent) (m.2).nullable))
 
-  led_cases : (k : Place) → LeadsTo R ground.start.now S place k → Some_of (λ (i : Dotted L). IsPassedOn R a place.state i k) items
+  led_cases : (k : Place) → LeadsBackTo R automaton.start.now S place k → Some_of (λ (i : Dotted L). IsPassedOn R a place.state i k) items
   led_cases k b = elim (back_cases R.productions S b) [
     | inl o ↦ absurd (let m = o.moved in omega (arith, begun, m))
     | inr t ↦
-        let p = parent_item ground.states.now place.state s there a k.item.production k.item.index t.after t.item t.behind in (
+        let p = parent_item automaton.states.now place.state s there a k.item.production k.item.index t.after t.item t.behind in (
           p.item,
           p.among,
           record {
@@ -230,30 +230,30 @@ module _ {L : Type 0} (ground : Ground L) (place : Place) (s : State L) (there :
         )
   ]
 
-  module _ (k : ℕ) (name : NonterminalString) (is : name ≡ a) (old middle new : LaneTable) (start now : Walk Place) (ended : Gains k (IsEnd ground.start.now name place.state) (IsEndBit R ground.start.now name place.state) Nothing old middle) (h : IsFollowing R name place.state k items middle new start now) where
-    pub Unepsilon-gains : GainsOf ground place k old new
+  module _ (k : ℕ) (name : NonterminalString) (is : name ≡ a) (old middle new : LaneTable) (start now : Walk Place) (ended : Gains k (IsEnd automaton.start.now name place.state) (IsEndBit R automaton.start.now name place.state) Nothing old middle) (h : IsFollowing R name place.state k items middle new start now) where
+    pub Unepsilon-gains : GainsOf automaton place k old new
     Unepsilon-gains =
-        let first = subst (λ (x : NonterminalString). Gains k (IsEnd ground.start.now x place.state) (IsEndBit R ground.start.now x place.state) Nothing old middle) is ended in
+        let first = subst (λ (x : NonterminalString). Gains k (IsEnd automaton.start.now x place.state) (IsEndBit R automaton.start.now x place.state) Nothing old middle) is ended in
         let second = subst (λ (x : NonterminalString). Gains k (λ row. Some_of (λ (i : Dotted L). IsHere place.state (IsParent x i) row) items) (λ row bit. Some_of (λ (i : Dotted L). IsHere place.state (IsFollowBit R x i bit) row) items) Nothing middle new) is h.gains in
-        Gains-then k (IsEnd ground.start.now a place.state) (λ row. Some_of (λ (i : Dotted L). IsHere place.state (IsParent a i) row) items) (GivesCell R ground.start.now S place) (IsEndBit R ground.start.now a place.state) (λ row bit. Some_of (λ (i : Dotted L). IsHere place.state (IsFollowBit R a i bit) row) items) (GivesBit R ground.start.now S place) Nothing Nothing (GivesSuccessor R ground.start.now S place)
+        Gains-then k (IsEnd automaton.start.now a place.state) (λ row. Some_of (λ (i : Dotted L). IsHere place.state (IsParent a i) row) items) (GivesCell R automaton.start.now S place) (IsEndBit R automaton.start.now a place.state) (λ row bit. Some_of (λ (i : Dotted L). IsHere place.state (IsFollowBit R a i bit) row) items) (GivesBit R automaton.start.now S place) Nothing Nothing (GivesSuccessor R automaton.start.now S place)
         cell_end cell_parent cell_cases bit_end bit_parent bit_cases (λ l r n. absurd n) (λ l r n. absurd n) (λ l r g. absurd (let m = g.moved in omega (arith, begun, m))) old middle new first second
 
-    pub Unepsilon-visits : VisitsOf ground place start now
+    pub Unepsilon-visits : VisitsOf automaton place start now
     Unepsilon-visits =
         let v = subst (λ (x : NonterminalString). Visits (λ p. Some_of (λ (i : Dotted L). IsPassedOn R x place.state i p) items) start now) is h.visits in
-        Visits-same (λ p. Some_of (λ (i : Dotted L). IsPassedOn R a place.state i p) items) (LeadsTo R ground.start.now S place) led_parent led_cases start now v
+        Visits-same (λ p. Some_of (λ (i : Dotted L). IsPassedOn R a place.state i p) items) (LeadsBackTo R automaton.start.now S place) led_parent led_cases start now v
 
   -- Eof was added, and the items so far were gained; if the step of the next one fails, a part of
   -- it was gained
   module _ (k : ℕ) (name : NonterminalString) (is : name ≡ a) (old middle now new : LaneTable) (start walk : Walk Place) (done : List (Dotted L)) (item : Dotted L) (among : (i : Dotted L) → Contains done i → Contains items i) (this : Contains items item) where
-    pub Unepsilon-part : Gains k (IsEnd ground.start.now name place.state) (IsEndBit R ground.start.now name place.state) Nothing old middle → IsFollowing R name place.state k done middle now start walk →
-        GainsSome k (IsHere place.state (IsParent name item)) (λ row bit. IsHere place.state (IsFollowBit R name item bit) row) Nothing now new → GainsSomeOf ground place k old new
+    pub Unepsilon-part : Gains k (IsEnd automaton.start.now name place.state) (IsEndBit R automaton.start.now name place.state) Nothing old middle → IsFollowing R name place.state k done middle now start walk →
+        GainsSome k (IsHere place.state (IsParent name item)) (λ row bit. IsHere place.state (IsFollowBit R name item bit) row) Nothing now new → GainsSomeOf automaton place k old new
     Unepsilon-part ended h part =
-        let first = subst (λ (x : NonterminalString). Gains k (IsEnd ground.start.now x place.state) (IsEndBit R ground.start.now x place.state) Nothing old middle) is ended in
+        let first = subst (λ (x : NonterminalString). Gains k (IsEnd automaton.start.now x place.state) (IsEndBit R automaton.start.now x place.state) Nothing old middle) is ended in
         let second = subst (λ (x : NonterminalString). Gains k (λ row. Some_of (λ (i : Dotted L). IsHere place.state (IsParent x i) row) done) (λ row bit. Some_of (λ (i : Dotted L). IsHere place.state (IsFollowBit R x i bit) row) done) Nothing middle now) is h.gains in
         let third = subst (λ (x : NonterminalString). GainsSome k (IsHere place.state (IsParent x item)) (λ row bit. IsHere place.state (IsFollowBit R x item bit) row) Nothing now new) is part in
-        GainsSome-then k (GivesCell R ground.start.now S place) (GivesBit R ground.start.now S place) (GivesSuccessor R ground.start.now S place) old middle new
-        (GainsSome-wider k (IsEnd ground.start.now a place.state) (GivesCell R ground.start.now S place) (IsEndBit R ground.start.now a place.state) (GivesBit R ground.start.now S place) Nothing (GivesSuccessor R ground.start.now S place) cell_end bit_end (λ l r n. absurd n) old middle
-        (GainsSome-all k (IsEnd ground.start.now a place.state) (IsEndBit R ground.start.now a place.state) Nothing old middle first))
-        (GainsSome-last k (λ row. Some_of (λ (i : Dotted L). IsHere place.state (IsParent a i) row) done) (IsHere place.state (IsParent a item)) (GivesCell R ground.start.now S place) (λ row bit. Some_of (λ (i : Dotted L). IsHere place.state (IsFollowBit R a i bit) row) done) (λ row bit. IsHere place.state (IsFollowBit R a item bit) row) (GivesBit R ground.start.now S place) Nothing Nothing (GivesSuccessor R ground.start.now S place)
+        GainsSome-then k (GivesCell R automaton.start.now S place) (GivesBit R automaton.start.now S place) (GivesSuccessor R automaton.start.now S place) old middle new
+        (GainsSome-wider k (IsEnd automaton.start.now a place.state) (GivesCell R automaton.start.now S place) (IsEndBit R automaton.start.now a place.state) (GivesBit R automaton.start.now S place) Nothing (GivesSuccessor R automaton.start.now S place) cell_end bit_end (λ l r n. absurd n) old middle
+        (GainsSome-all k (IsEnd automaton.start.now a place.state) (IsEndBit R automaton.start.now a place.state) Nothing old middle first))
+        (GainsSome-last k (λ row. Some_of (λ (i : Dotted L). IsHere place.state (IsParent a i) row) done) (IsHere place.state (IsParent a item)) (GivesCell R automaton.start.now S place) (λ row bit. Some_of (λ (i : Dotted L). IsHere place.state (IsFollowBit R a i bit) row) done) (λ row bit. IsHere place.state (IsFollowBit R a item bit) row) (GivesBit R automaton.start.now S place) Nothing Nothing (GivesSuccessor R automaton.start.now S place)
         (λ row m. cell_parent row (m.0, among m.0 m.1, m.2)) (λ row c. cell_parent row (item, this, c)) (λ row bit m. bit_parent row bit (m.0, among m.0 m.1, m.2)) (λ row bit b. bit_parent row bit (item, this, b)) (λ l r n. absurd n) (λ l r n. absurd n) middle now new second third)

@@ -7,12 +7,12 @@ use Rattle.lalrpop_base.specs.Words.{IsNullable, LeadsBack, to_parent, behind_pa
 use Rattle.lalrpop_grammar.specs.lanes.Lanes.{over_edge, Gives}
 use Rattle.lalrpop_lanes.proofs.Types.{NonterminalString, Production, StateIndex, Symbol, Token}
 use Rattle.lalrpop_grammar.specs.declared.repr.Symbol.TheVariants.{Nonterminal}
-use Rattle.lalrpop_lanes.specs.Words.{IsGround, Gains, GainsSome, Nowhere, Nothing, IsPair, Some_of, GivesCell, GivesBit, GivesSuccessor}
+use Rattle.lalrpop_lanes.specs.Words.{IsAutomaton, Gains, GainsSome, Nowhere, Nothing, IsPair, Some_of, GivesCell, GivesBit, GivesSuccessor}
 use Rattle.lalrpop_lanes.specs.Words.{GainsOf, GainsSomeOf, VisitsOf, AreInRange}
 use Rattle.lalrpop_construction.specs.Words.{places_in}
 use Rattle.lalrpop_state_graph.specs.Words.{edge, edges, sources_over}
-use Rattle.lalrpop_lanes.specs.lanes.LaneSteps.{LeadsTo}
-use Rattle.lalrpop_lanes.specs.declared.lane_table.lane.ground.Ground.{Ground}
+use Rattle.lalrpop_lanes.specs.lanes.LaneSteps.{LeadsBackTo}
+use Rattle.lalrpop_lanes.specs.declared.lane_table.lane.automaton.Automaton.{Automaton}
 use Rattle.lalrpop_collections.specs.declared.collections.walk.Walk.{Walk}
 use Rattle.lalrpop_lanes.specs.declared.lane_table.table.LaneTable.{LaneTable}
 use Rattle.lalrpop_states.specs.declared.lr1_core.place.Place.{Place}
@@ -56,9 +56,9 @@ module _ (g : List Production) (states : ℕ → Contents) where
   gives_begun (of_start s p e) = refl
 
 -- ---- the sources in turn
-module _ {L : Type 0} (ground : Ground L) (place : Place) (x : Symbol) where
+module _ {L : Type 0} (automaton : Automaton L) (place : Place) (x : Symbol) where
   abbrev pub S : ℕ → Contents
-  S = places_in ground.states.now
+  S = places_in automaton.states.now
 
   abbrev IsBefore : Place → StateIndex → Type 0
   IsBefore k q = at_place q.0 place.item.production (place.item.index - 1) ≡ k
@@ -105,14 +105,14 @@ module _ {L : Type 0} (ground : Ground L) (place : Place) (x : Symbol) where
   }
 
   -- a source that is left has an edge over the symbol to the place
-  pub left_edge : (before left all : List StateIndex) (q : StateIndex) (a b : LaneTable) (t u : Walk Place) → IsGround ground → all ≡ reverse (sources_over ground.state_graph.now x (record { 0 = place.state })) → before ≡ q ∷ left → IsUnshifting before all a b t u → Contains (edges ground.states.now) (edge q x (record { 0 = place.state }))
+  pub left_edge : (before left all : List StateIndex) (q : StateIndex) (a b : LaneTable) (t u : Walk Place) → IsAutomaton automaton → all ≡ reverse (sources_over automaton.state_graph.now x (record { 0 = place.state })) → before ≡ q ∷ left → IsUnshifting before all a b t u → Contains (edges automaton.states.now) (edge q x (record { 0 = place.state }))
   left_edge before left all q a b t u on is first h =
       let there : Contains all q = subst (λ (xs : List StateIndex). Contains xs q) h.whole (Contains-append_right h.done before q (subst (λ (xs : List StateIndex). Contains xs q) (sym first) (contains_head q left))) in
-      let sources = sources_over ground.state_graph.now x (record { 0 = place.state }) in
-      source_edge ground.state_graph.now (edges ground.states.now) x (record { 0 = place.state }) q on.graph (Contains-from_reverse sources q (subst (λ (xs : List StateIndex). Contains xs q) is there))
+      let sources = sources_over automaton.state_graph.now x (record { 0 = place.state }) in
+      source_edge automaton.state_graph.now (edges automaton.states.now) x (record { 0 = place.state }) q on.graph (Contains-from_reverse sources q (subst (λ (xs : List StateIndex). Contains xs q) is there))
 
   -- ---- all sources
-  module _ (on : IsGround ground) (moved : 0 < place.item.index) (at : slice_get place.item.production.symbols (place.item.index - 1) ≡ Some x) where
+  module _ (on : IsAutomaton automaton) (moved : 0 < place.item.index) (at : slice_get place.item.production.symbols (place.item.index - 1) ≡ Some x) where
     abbrev dot : ℕ
     dot = place.item.index - 1
 
@@ -122,7 +122,7 @@ module _ {L : Type 0} (ground : Ground L) (place : Place) (x : Symbol) where
     behind : drop dot place.item.production.symbols ≡ x ∷ drop (suc dot) place.item.production.symbols
     behind = drop_split dot place.item.production.symbols x at
 
-    step_gives : (q : StateIndex) → leads (S q.0) x ≡ Some place.state → (l r : ℕ) → IsStep l r q → GivesSuccessor (rules_of ground.grammar.now) ground.start.now S place l r
+    step_gives : (q : StateIndex) → leads (S q.0) x ≡ Some place.state → (l r : ℕ) → IsStep l r q → GivesSuccessor (rules_of automaton.grammar.now) automaton.start.now S place l r
     step_gives q edge l r pair = record {
       here = pair.right;
       index = dot;
@@ -134,43 +134,43 @@ module _ {L : Type 0} (ground : Ground L) (place : Place) (x : Symbol) where
     }
 
     -- the sources so far were gained; if the step of the next one fails, a part of it was gained
-    pub Unshifting-part : (before all : List StateIndex) (q : StateIndex) (a b c : LaneTable) (t u : Walk Place) → leads (S q.0) x ≡ Some place.state → ((k : ℕ) → GainsSome k Nowhere Nothing (IsPair q.0 place.state) b c) → IsUnshifting before all a b t u → (k : ℕ) → GainsSomeOf ground place k a c
-    Unshifting-part before all q a b c t u edge part h k = GainsSome-last k Nowhere Nowhere (GivesCell (rules_of ground.grammar.now) ground.start.now S place) Nothing Nothing (GivesBit (rules_of ground.grammar.now) ground.start.now S place) (λ l r. Some_of (IsStep l r) h.done) (IsPair q.0 place.state) (GivesSuccessor (rules_of ground.grammar.now) ground.start.now S place)
+    pub Unshifting-part : (before all : List StateIndex) (q : StateIndex) (a b c : LaneTable) (t u : Walk Place) → leads (S q.0) x ≡ Some place.state → ((k : ℕ) → GainsSome k Nowhere Nothing (IsPair q.0 place.state) b c) → IsUnshifting before all a b t u → (k : ℕ) → GainsSomeOf automaton place k a c
+    Unshifting-part before all q a b c t u edge part h k = GainsSome-last k Nowhere Nowhere (GivesCell (rules_of automaton.grammar.now) automaton.start.now S place) Nothing Nothing (GivesBit (rules_of automaton.grammar.now) automaton.start.now S place) (λ l r. Some_of (IsStep l r) h.done) (IsPair q.0 place.state) (GivesSuccessor (rules_of automaton.grammar.now) automaton.start.now S place)
         (λ row n. absurd n) (λ row n. absurd n) (λ row bit n. absurd n) (λ row bit n. absurd n) (λ l r m. step_gives m.0 (h.leading m.0 m.1) l r m.2) (step_gives q edge) a b c (h.gains k) (part k)
 
-    module _ (left all : List StateIndex) (old new : LaneTable) (start now : Walk Place) (none : left ≡ []) (is : all ≡ reverse (sources_over ground.state_graph.now x (record { 0 = place.state }))) (h : IsUnshifting left all old new start now) where
+    module _ (left all : List StateIndex) (old new : LaneTable) (start now : Walk Place) (none : left ≡ []) (is : all ≡ reverse (sources_over automaton.state_graph.now x (record { 0 = place.state }))) (h : IsUnshifting left all old new start now) where
       -- each state from which the symbol leads to the place is done
       reached : (l : ℕ) (e : ℕ) (y : Symbol) (after : List Symbol) → place.item.index ≡ suc e → leads (S l) y ≡ Some place.state → drop e place.item.production.symbols ≡ y ∷ after → Contains h.done (record { 0 = l })
       reached l e y after i edge b =
           let same : e ≡ dot = omega (arith, i, next) in
           let there : Some y ≡ Some x = sym (split_drop dot place.item.production.symbols y after (ap (λ (n : ℕ). drop n place.item.production.symbols) (sym same) ∙ b)) ∙ at in
           let is_x : y ≡ x = same_some y x there in
-          let found = leads_edge ground.states.now l place.state x (subst (λ (z : Symbol). leads (S l) z ≡ Some place.state) is_x edge) in
-          let source = edge_source ground.state_graph.now (edges ground.states.now) x (record { 0 = place.state }) (record { 0 = l }) on.graph found in
-          let sources = sources_over ground.state_graph.now x (record { 0 = place.state }) in
+          let found = leads_edge automaton.states.now l place.state x (subst (λ (z : Symbol). leads (S l) z ≡ Some place.state) is_x edge) in
+          let source = edge_source automaton.state_graph.now (edges automaton.states.now) x (record { 0 = place.state }) (record { 0 = l }) on.graph found in
+          let sources = sources_over automaton.state_graph.now x (record { 0 = place.state }) in
           let listed : Contains all (record { 0 = l }) = subst (λ (xs : List StateIndex). Contains xs (record { 0 = l })) (sym is) (Contains-reverse sources (record { 0 = l }) source) in
           subst (λ (xs : List StateIndex). Contains xs (record { 0 = l })) (sym h.whole ∙ ap (λ (xs : List StateIndex). h.done ++ xs) none ∙ append-nil h.done) listed
 
-      stepped : (l r : ℕ) → Some_of (IsStep l r) h.done ↔ GivesSuccessor (rules_of ground.grammar.now) ground.start.now S place l r
+      stepped : (l r : ℕ) → Some_of (IsStep l r) h.done ↔ GivesSuccessor (rules_of automaton.grammar.now) automaton.start.now S place l r
       stepped l r = (
         λ m. step_gives m.0 (h.leading m.0 m.1) l r m.2,
         λ s. (record { 0 = l }, reached l s.index s.symbol s.after s.moved (subst (λ (n : ℕ). leads (S l) s.symbol ≡ Some n) (sym s.here) s.edge) s.behind, record { left = refl; right = s.here }),
       )
 
-      pub Unshifting-gains : (k : ℕ) → GainsOf ground place k old new
-      Unshifting-gains k = Gains-same k Nowhere (GivesCell (rules_of ground.grammar.now) ground.start.now S place) Nothing (GivesBit (rules_of ground.grammar.now) ground.start.now S place) (λ l r. Some_of (IsStep l r) h.done) (GivesSuccessor (rules_of ground.grammar.now) ground.start.now S place)
-          (λ row. (λ n. absurd n, λ c. absurd (omega (arith, moved, c.begun)))) (λ row bit. (λ n. absurd n, λ b. let z = gives_begun (rules_of ground.grammar.now).productions S b.gives in absurd (omega (arith, moved, z)))) stepped old new (h.gains k)
+      pub Unshifting-gains : (k : ℕ) → GainsOf automaton place k old new
+      Unshifting-gains k = Gains-same k Nowhere (GivesCell (rules_of automaton.grammar.now) automaton.start.now S place) Nothing (GivesBit (rules_of automaton.grammar.now) automaton.start.now S place) (λ l r. Some_of (IsStep l r) h.done) (GivesSuccessor (rules_of automaton.grammar.now) automaton.start.now S place)
+          (λ row. (λ n. absurd n, λ c. absurd (omega (arith, moved, c.begun)))) (λ row bit. (λ n. absurd n, λ b. let z = gives_begun (rules_of automaton.grammar.now).productions S b.gives in absurd (omega (arith, moved, z)))) stepped old new (h.gains k)
 
-      led : (k : Place) → Some_of (IsBefore k) h.done → LeadsTo (rules_of ground.grammar.now) ground.start.now S place k
-      led k m = subst (λ (z : Place). LeadsTo (rules_of ground.grammar.now) ground.start.now S place z) m.2 (subst (λ (i : ℕ). LeadsBack (rules_of ground.grammar.now).productions S place.state place.item.production i (m.0).0 place.item.production dot) (sym next) (over_edge (m.0).0 place.state place.item.production dot x (drop (suc dot) place.item.production.symbols) (h.leading m.0 m.1) behind))
+      led : (k : Place) → Some_of (IsBefore k) h.done → LeadsBackTo (rules_of automaton.grammar.now) automaton.start.now S place k
+      led k m = subst (λ (z : Place). LeadsBackTo (rules_of automaton.grammar.now) automaton.start.now S place z) m.2 (subst (λ (i : ℕ). LeadsBack (rules_of automaton.grammar.now).productions S place.state place.item.production i (m.0).0 place.item.production dot) (sym next) (over_edge (m.0).0 place.state place.item.production dot x (drop (suc dot) place.item.production.symbols) (h.leading m.0 m.1) behind))
 
-      back : (k : Place) → LeadsTo (rules_of ground.grammar.now) ground.start.now S place k → Some_of (IsBefore k) h.done
-      back k b = elim (back_cases (rules_of ground.grammar.now).productions S b) [
+      back : (k : Place) → LeadsBackTo (rules_of automaton.grammar.now) automaton.start.now S place k → Some_of (IsBefore k) h.done
+      back k b = elim (back_cases (rules_of automaton.grammar.now).productions S b) [
         | inl o ↦
             let same : dot ≡ k.item.index = let i = o.moved in omega (arith, i, next) in
             (record { 0 = k.state }, reached k.state k.item.index o.symbol o.after o.moved o.edge o.behind, same_place (at_place k.state place.item.production dot) k refl (sym o.same) same)
         | inr p ↦ absurd (let z = p.begun in omega (arith, moved, z))
       ]
 
-      pub Unshifting-visits : VisitsOf ground place start now
-      Unshifting-visits = Visits-same (λ k. Some_of (IsBefore k) h.done) (LeadsTo (rules_of ground.grammar.now) ground.start.now S place) led back start now h.visits
+      pub Unshifting-visits : VisitsOf automaton place start now
+      Unshifting-visits = Visits-same (λ k. Some_of (IsBefore k) h.done) (LeadsBackTo (rules_of automaton.grammar.now) automaton.start.now S place) led back start now h.visits

@@ -1,13 +1,13 @@
 //! Traces a place back, over edges and to the items that expand to a nonterminal.
 ghost use Rattle.std.specs.Prelude.{◌≡◌, ◌<◌, OnErr, OnOk, Contains, length};
 ghost use Rattle.lalrpop_base.specs.Words.{productions, rules_of};
-ghost use Rattle.lalrpop_lanes.specs.lanes.LaneSteps.{AreExpanded, GainsAll, GainsOf, GainsSomeOf, GainsSomeOfAll, IsEndPlace, IsGround, VisitsOf};
+ghost use Rattle.lalrpop_lanes.specs.lanes.LaneSteps.{AreExpanded, GainsAll, GainsOf, GainsSomeOf, GainsSomeOfAll, IsEndPlace, IsAutomaton, VisitsOf};
 ghost use Rattle.lalrpop_lanes.specs.lane_tables.LaneTables.{AreInRange};
 ghost use Rattle.lalrpop_lanes.specs.lanes.LaneTraces.{TakesLane, TakesPartOfLane};
 ghost use Rattle.lalrpop_construction.specs.states.SamePlaces.{places_in};
 
+use super::automaton::Automaton;
 use super::expanded::Expanded;
-use super::ground::Ground;
 use super::unepsilon::unepsilon;
 use super::unshift::unshift;
 use crate::lane_table::context_set::ConflictIndex;
@@ -27,7 +27,7 @@ use std::collections::BTreeSet;
 // steps back only once.
 fn step<'grammar, L>(
     alloc: Global,
-    ground: &Ground<'_, 'grammar, L>,
+    automaton: &Automaton<'_, 'grammar, L>,
     place: &Place<'grammar>,
     conflict: ConflictIndex,
     table: &mut LaneTable<'grammar>,
@@ -35,26 +35,28 @@ fn step<'grammar, L>(
     expanded: &mut BTreeSet<Expanded<'grammar>>,
 ) -> Result<(), OutOfMemory>
     requires there { conflict.index < table.old.conflicts }
-    requires ground { IsGround ground.now }
-    requires listed { place.now.state < length ground.now.states.now }
-    requires expanded { AreExpanded ground.now conflict.index table.old walk.old expanded.old.keys }
-    ensures gains { OnOk result (GainsOf ground.now place.now conflict.index table.old table.new) }
+    requires automaton { IsAutomaton automaton.now }
+    requires listed { place.now.state < length automaton.now.states.now }
+    requires expanded { AreExpanded automaton.now conflict.index table.old walk.old
+        expanded.old.keys }
+    ensures gains { OnOk result
+        (GainsOf automaton.now place.now conflict.index table.old table.new) }
     ensures part { OnErr result
-        (GainsSomeOf ground.now place.now conflict.index table.old table.new) }
-    ensures visits { OnOk result (VisitsOf ground.now place.now walk.old walk.new) }
+        (GainsSomeOf automaton.now place.now conflict.index table.old table.new) }
+    ensures visits { OnOk result (VisitsOf automaton.now place.now walk.old walk.new) }
     ensures expanded { OnOk result
-        (AreExpanded ground.now conflict.index table.new walk.new expanded.new.keys) }
+        (AreExpanded automaton.now conflict.index table.new walk.new expanded.new.keys) }
     ensures columns { table.new.conflicts ≡ table.old.conflicts }
     ensures in_range { AreInRange table.old → AreInRange table.new }
 {
     if place.is_past_start() {
-        unshift(ground, place, table, walk)?;
+        unshift(automaton, place, table, walk)?;
         return Ok(());
     }
     if !add_key(expanded, Expanded::at(place))? {
         return Ok(());
     }
-    unepsilon(alloc, ground, place, conflict, table, walk)?;
+    unepsilon(alloc, automaton, place, conflict, table, walk)?;
     Ok(())
 }
 
@@ -62,18 +64,18 @@ fn step<'grammar, L>(
 // added to the table.
 fn trace_back<'grammar, L>(
     alloc: Global,
-    ground: &Ground<'_, 'grammar, L>,
+    automaton: &Automaton<'_, 'grammar, L>,
     first: Place<'grammar>,
     conflict: ConflictIndex,
     table: &mut LaneTable<'grammar>,
 ) -> Result<(), OutOfMemory>
     requires there { conflict.index < table.old.conflicts }
-    requires ground { IsGround ground.now }
-    requires end { IsEndPlace ground.now first }
+    requires automaton { IsAutomaton automaton.now }
+    requires end { IsEndPlace automaton.now first }
     ensures gains { OnOk result
-        (GainsAll ground.now first.entry conflict.index table.old table.new) }
+        (GainsAll automaton.now first.entry conflict.index table.old table.new) }
     ensures part { OnErr result
-        (GainsSomeOfAll ground.now first.entry conflict.index table.old table.new) }
+        (GainsSomeOfAll automaton.now first.entry conflict.index table.old table.new) }
     ensures columns { table.new.conflicts ≡ table.old.conflicts }
     ensures in_range { AreInRange table.old → AreInRange table.new }
 {
@@ -83,7 +85,7 @@ fn trace_back<'grammar, L>(
     while let Some(place) = walk.waiting.pop_front() {
         step(
             alloc,
-            ground,
+            automaton,
             &place,
             conflict,
             table,
@@ -98,31 +100,34 @@ fn trace_back<'grammar, L>(
 /// first, and may stay empty.
 pub(crate) fn take_lane<'grammar, L>(
     alloc: Global,
-    ground: &Ground<'_, 'grammar, L>,
+    automaton: &Automaton<'_, 'grammar, L>,
     state: StateIndex,
     production: &'grammar Production,
     conflict: ConflictIndex,
     table: &mut LaneTable<'grammar>,
 ) -> Result<(), OutOfMemory>
     requires there { conflict.index < table.old.conflicts }
-    requires ground { IsGround ground.now }
-    requires own { Contains (productions ground.now.grammar.now) production.now }
-    requires listed { state.0 < length ground.now.states.now }
-    ensures taken { OnOk result (TakesLane (rules_of ground.now.grammar.now) ground.now.start.now
-        (places_in ground.now.states.now) state production.now conflict.index table.old table.new) }
-    ensures part { OnErr result (TakesPartOfLane (rules_of ground.now.grammar.now)
-        ground.now.start.now (places_in ground.now.states.now) state production.now conflict.index
+    requires automaton { IsAutomaton automaton.now }
+    requires own { Contains (productions automaton.now.grammar.now) production.now }
+    requires listed { state.0 < length automaton.now.states.now }
+    ensures taken { OnOk result (TakesLane
+        (rules_of automaton.now.grammar.now) automaton.now.start.now
+        (places_in automaton.now.states.now) state production.now conflict.index table.old
+        table.new) }
+    ensures part { OnErr result (TakesPartOfLane (rules_of automaton.now.grammar.now)
+        automaton.now.start.now
+        (places_in automaton.now.states.now) state production.now conflict.index
         table.old table.new) }
     ensures columns { table.new.conflicts ≡ table.old.conflicts }
     ensures in_range { AreInRange table.old → AreInRange table.new }
 {
-    let none = TokenSet::new(alloc, &ground.grammar.terminals);
+    let none = TokenSet::new(alloc, &automaton.grammar.terminals);
     table.add_lookahead(state, conflict, &none)?;
     let item = Item::lr0(production, production.symbols.len());
     let first = Place {
         state: state.0,
         item,
     };
-    trace_back(alloc, ground, first, conflict, table)?;
+    trace_back(alloc, automaton, first, conflict, table)?;
     Ok(())
 }

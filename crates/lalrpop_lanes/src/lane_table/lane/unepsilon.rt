@@ -2,10 +2,10 @@
 //! the dot.
 ghost use Rattle.std.specs.Prelude.{◌≡◌, ◌<◌, OnErr, OnOk, Contains, length};
 ghost use Rattle.lalrpop_base.specs.Words.{productions, rules_of, Visits};
-ghost use Rattle.lalrpop_lanes.specs.lanes.LaneSteps.{Gains, GainsOf, GainsSome, GainsSomeOf, IsEnd, IsEndBit, IsFollowBit, IsGround, IsHere, IsParent, IsPassedOn, IsPlaceIf, Nothing, VisitsOf};
+ghost use Rattle.lalrpop_lanes.specs.lanes.LaneSteps.{Gains, GainsOf, GainsSome, GainsSomeOf, IsEnd, IsEndBit, IsFollowBit, IsAutomaton, IsHere, IsParent, IsPassedOn, IsPlaceIf, Nothing, VisitsOf};
 ghost use Rattle.lalrpop_lanes.specs.lane_tables.LaneTables.{AreInRange, AreSameTables};
 
-use super::ground::Ground;
+use super::automaton::Automaton;
 use crate::lane_table::context_set::ConflictIndex;
 use crate::lane_table::table::LaneTable;
 use lalrpop_base::collections::walk::Walk;
@@ -21,22 +21,22 @@ use std::alloc::Global;
 // Adds `Eof` to the cell of the state, if the nonterminal is the start symbol.
 fn add_end<'grammar, L>(
     alloc: Global,
-    ground: &Ground<'_, 'grammar, L>,
+    automaton: &Automaton<'_, 'grammar, L>,
     name: &NonterminalString,
     state: usize,
     conflict: ConflictIndex,
     table: &mut LaneTable<'grammar>,
 ) -> Result<(), OutOfMemory>
     requires { conflict.index < table.old.conflicts }
-    ensures gains { OnOk result (Gains conflict.index (IsEnd ground.now.start.now name.now state)
-        (IsEndBit (rules_of ground.now.grammar.now) ground.now.start.now name.now state) Nothing
-        table.old table.new) }
+    ensures gains { OnOk result (Gains conflict.index (IsEnd automaton.now.start.now name.now state)
+        (IsEndBit (rules_of automaton.now.grammar.now) automaton.now.start.now name.now state)
+        Nothing table.old table.new) }
     ensures err { OnErr result (AreSameTables table.old table.new) }
     ensures columns { table.new.conflicts ≡ table.old.conflicts }
     ensures in_range { AreInRange table.old → AreInRange table.new }
 {
-    if equal(name, ground.start) {
-        let end = TokenSet::eof(alloc, &ground.grammar.terminals)?;
+    if equal(name, automaton.start) {
+        let end = TokenSet::eof(alloc, &automaton.grammar.terminals)?;
         table.add_lookahead(StateIndex(state), conflict, &end)?;
     }
     Ok(())
@@ -64,7 +64,7 @@ fn pass_on<'grammar, L>(
 // nonterminal to the cell of the state. Goes to the item if these symbols are nullable.
 fn follow<'grammar, L>(
     alloc: Global,
-    ground: &Ground<'_, 'grammar, L>,
+    automaton: &Automaton<'_, 'grammar, L>,
     name: &NonterminalString,
     state: usize,
     item: &Item<'grammar, L>,
@@ -73,18 +73,18 @@ fn follow<'grammar, L>(
     walk: &mut Walk<Place<'grammar>>,
 ) -> Result<(), OutOfMemory>
     requires there { conflict.index < table.old.conflicts }
-    requires ground { IsGround ground.now }
-    requires own { Contains (productions ground.now.grammar.now) item.now.production }
+    requires automaton { IsAutomaton automaton.now }
+    requires own { Contains (productions automaton.now.grammar.now) item.now.production }
     ensures gains { OnOk result (Gains conflict.index (IsHere state (IsParent name.now item.now))
         (λ row bit. IsHere state
-        (IsFollowBit (rules_of ground.now.grammar.now) name.now item.now bit) row) Nothing table.old
-        table.new) }
+        (IsFollowBit (rules_of automaton.now.grammar.now) name.now item.now bit) row) Nothing
+        table.old table.new) }
     ensures part { OnErr result (GainsSome conflict.index
         (IsHere state (IsParent name.now item.now)) (λ row bit. IsHere state
-        (IsFollowBit (rules_of ground.now.grammar.now) name.now item.now bit) row) Nothing table.old
-        table.new) }
+        (IsFollowBit (rules_of automaton.now.grammar.now) name.now item.now bit) row) Nothing
+        table.old table.new) }
     ensures visits { OnOk result (Visits
-        (IsPassedOn (rules_of ground.now.grammar.now) name.now state item.now) walk.old walk.new) }
+        (IsPassedOn (rules_of automaton.now.grammar.now) name.now state item.now) walk.old walk.new) }
     ensures columns { table.new.conflicts ≡ table.old.conflicts }
     ensures in_range { AreInRange table.old → AreInRange table.new }
 {
@@ -92,8 +92,8 @@ fn follow<'grammar, L>(
         return Ok(());
     }
     let rest = item.symbol_sets().suffix;
-    let mut first = ground.first_sets.first0(alloc, rest)?;
-    let nullable = first.take_eof(&ground.grammar.terminals);
+    let mut first = automaton.first_sets.first0(alloc, rest)?;
+    let nullable = first.take_eof(&automaton.grammar.terminals);
     table.add_lookahead(StateIndex(state), conflict, &first)?;
     pass_on(nullable, state, item, walk)?;
     Ok(())
@@ -104,28 +104,29 @@ fn follow<'grammar, L>(
 /// items to the table.
 pub(crate) fn unepsilon<'grammar, L>(
     alloc: Global,
-    ground: &Ground<'_, 'grammar, L>,
+    automaton: &Automaton<'_, 'grammar, L>,
     place: &Place<'grammar>,
     conflict: ConflictIndex,
     table: &mut LaneTable<'grammar>,
     walk: &mut Walk<Place<'grammar>>,
 ) -> Result<(), OutOfMemory>
     requires there { conflict.index < table.old.conflicts }
-    requires ground { IsGround ground.now }
+    requires automaton { IsAutomaton automaton.now }
     requires begun { place.now.item.index ≡ 0 }
-    requires listed { place.now.state < length ground.now.states.now }
-    ensures gains { OnOk result (GainsOf ground.now place.now conflict.index table.old table.new) }
+    requires listed { place.now.state < length automaton.now.states.now }
+    ensures gains { OnOk result
+        (GainsOf automaton.now place.now conflict.index table.old table.new) }
     ensures part { OnErr result
-        (GainsSomeOf ground.now place.now conflict.index table.old table.new) }
-    ensures visits { OnOk result (VisitsOf ground.now place.now walk.old walk.new) }
+        (GainsSomeOf automaton.now place.now conflict.index table.old table.new) }
+    ensures visits { OnOk result (VisitsOf automaton.now place.now walk.old walk.new) }
     ensures columns { table.new.conflicts ≡ table.old.conflicts }
     ensures in_range { AreInRange table.old → AreInRange table.new }
 {
     let name = place.name();
     let state = place.state;
-    add_end(alloc, ground, name, state, conflict, table)?;
-    for item in ground.states[state].items.vec.iter() {
-        follow(alloc, ground, name, state, item, conflict, table, walk)?;
+    add_end(alloc, automaton, name, state, conflict, table)?;
+    for item in automaton.states[state].items.vec.iter() {
+        follow(alloc, automaton, name, state, item, conflict, table, walk)?;
     }
     Ok(())
 }

@@ -1,12 +1,12 @@
 //! Steps back over edges, from a place with a symbol before the dot.
 ghost use Rattle.std.specs.Prelude.{◌≡◌, ◌<◌, ◌-◌, ℕ, Some, OnErr, OnOk, Contains, length};
 ghost use Rattle.lalrpop_base.specs.Words.{leads, at_place, Visits};
-ghost use Rattle.lalrpop_lanes.specs.lanes.LaneSteps.{Gains, GainsOf, GainsSome, GainsSomeOf, IsGround, IsPair, Nothing, Nowhere, VisitsOf};
+ghost use Rattle.lalrpop_lanes.specs.lanes.LaneSteps.{Gains, GainsOf, GainsSome, GainsSomeOf, IsAutomaton, IsPair, Nothing, Nowhere, VisitsOf};
 ghost use Rattle.lalrpop_lanes.specs.lane_tables.LaneTables.{AreInRange};
 ghost use Rattle.lalrpop_construction.specs.states.SamePlaces.{places_in};
 ghost use Rattle.lalrpop_state_graph.specs.graphs.StateGraph.{edge, edges};
 
-use super::ground::Ground;
+use super::automaton::Automaton;
 use crate::lane_table::table::LaneTable;
 use lalrpop_base::collections::walk::Walk;
 use lalrpop_base::lr1_core::place::Place;
@@ -58,24 +58,24 @@ fn step_back<'grammar>(
 
 /// Steps back from a place over each edge of the symbol before its dot.
 pub(crate) fn unshift<'grammar, L>(
-    ground: &Ground<'_, 'grammar, L>,
+    automaton: &Automaton<'_, 'grammar, L>,
     place: &Place<'grammar>,
     table: &mut LaneTable<'grammar>,
     walk: &mut Walk<Place<'grammar>>,
 ) -> Result<(), OutOfMemory>
     requires moved { 0 < place.now.item.index }
-    requires ground { IsGround ground.now }
-    ensures gains { OnOk result ((k : ℕ) → GainsOf ground.now place.now k table.old table.new) }
+    requires automaton { IsAutomaton automaton.now }
+    ensures gains { OnOk result ((k : ℕ) → GainsOf automaton.now place.now k table.old table.new) }
     ensures part { OnErr result
-        ((k : ℕ) → GainsSomeOf ground.now place.now k table.old table.new) }
-    ensures visits { OnOk result (VisitsOf ground.now place.now walk.old walk.new) }
+        ((k : ℕ) → GainsSomeOf automaton.now place.now k table.old table.new) }
+    ensures visits { OnOk result (VisitsOf automaton.now place.now walk.old walk.new) }
     ensures columns { table.new.conflicts ≡ table.old.conflicts }
     ensures in_range { AreInRange table.old → AreInRange table.new }
 {
     let symbol = place.item.shifted_symbol();
     let state = StateIndex(place.state);
-    for source in ground.state_graph.predecessors(state, symbol) {
-        read_edge(ground.states, source, symbol, state);
+    for source in automaton.state_graph.predecessors(state, symbol) {
+        read_edge(automaton.states, source, symbol, state);
         step_back(place, source, table, walk)?;
     }
     Ok(())

@@ -11,7 +11,7 @@ use Rattle.lalrpop_grammar.proofs.theory.runs.Runs.{answered_is_tree, answered_w
 use Rattle.lalrpop_grammar.proofs.theory.runs.Sentences.{EndsWith, one_tree, tree_parsed, tree_run}
 use Rattle.lalrpop_grammar.proofs.theory.runs.Steps.{ends_halts, stands_halts, together}
 use Rattle.std.specs.declared.vec.Vec.{Vec}
-use Rattle.lalrpop_parser.specs.Words.{IsAnswer, IsPartialAnswer, StopsReading, PartialOutcome, Stack, Stop, HasPartialOutcome, all_read, stopped, ForEachGrammar}
+use Rattle.lalrpop_parser.specs.Words.{ReportsOutcome, IsPartialAnswer, StopsReading, PartialOutcome, Stack, Stop, HasPartialOutcome, all_read, stopped, ForEachGrammar}
 use Rattle.lalrpop_parser.specs.Words.{ForEachCanonical, HasEnough, HasOneTree, StepsAreRight, IsTreeWithin, IsCutOff, IsOutcomeFor, AnswersTrees, IfRefused, IfLimit, IsLimit, tree_of}
 use Rattle.lalrpop_parser.proofs.theory.runs.Outcomes.{stop_outcome, whole_outcome}
 use Rattle.lalrpop_parser.specs.declared.interpret.error.InterpretError.{InterpretError}
@@ -53,19 +53,19 @@ module _ {L : Type 0} (table : ℕ → Contents) (states : List (State L)) (w : 
   same_outcome : (o p : Outcome) → HasOutcome table w limit o → HasOutcome table w limit p → o ≡ p
   same_outcome = one_outcome table w limit
 
-  pub limit_cut_off : (answer : Result ParseTree (InterpretError L)) → IsAnswer (HasOutcome table w limit) states answer → IfErr answer (IfLimit (IsCutOff table w limit))
+  pub limit_cut_off : (answer : Result ParseTree (InterpretError L)) → ReportsOutcome (HasOutcome table w limit) states answer → IfErr answer (IfLimit (IsCutOff table w limit))
   limit_cut_off (Ok tree) h = tt
   limit_cut_off (Err (RefusedBy state token)) h = tt
   limit_cut_off (Err LimitPassed) h = was_cut_off h refl
   limit_cut_off (Err Memory) h = tt
 
-  pub cut_off_limit : (answer : Result ParseTree (InterpretError L)) → IsAnswer (HasOutcome table w limit) states answer → IsCutOff table w limit → IsLimit answer
+  pub cut_off_limit : (answer : Result ParseTree (InterpretError L)) → ReportsOutcome (HasOutcome table w limit) states answer → IsCutOff table w limit → IsLimit answer
   cut_off_limit (Ok tree) h k = absurd (let e = same_outcome (Parsed (tree_of tree)) Limit h (cut_off k.last k.reached k.another) in cc)
   cut_off_limit (Err (RefusedBy state token)) h k = absurd (let e = same_outcome (Refused h.0 token) Limit h.2 (cut_off k.last k.reached k.another) in cc)
   cut_off_limit (Err LimitPassed) h k = tt
   cut_off_limit (Err Memory) h k = tt
 
-  pub tree_parses : (answer : Result ParseTree (InterpretError L)) → IsAnswer (HasOutcome table w limit) states answer → IfOk answer (λ tree. ForEachGrammar table (IsTreeWithin limit w (tree_of tree)))
+  pub tree_parses : (answer : Result ParseTree (InterpretError L)) → ReportsOutcome (HasOutcome table w limit) states answer → IfOk answer (λ tree. ForEachGrammar table (IsTreeWithin limit w (tree_of tree)))
   tree_parses (Ok tree) h = λ g start faithful alone. record {
     parse = answered_is_tree g start table faithful w (tree_of tree) limit h;
     within = answered_within g start table faithful alone w (tree_of tree) limit h;
@@ -93,34 +93,34 @@ module _ {L : Type 0} (table : ℕ → Contents) (states : List (State L)) (w : 
               let k : Stands ≡ Ends (t ∷ []) = sym e ∙ ends in
               cc
 
-  answer_within : (t : Tree) → nodes (beside t no_trees) ≤ limit → HasOutcome table w limit (Parsed t) → (answer : Result ParseTree (InterpretError L)) → IsAnswer (HasOutcome table w limit) states answer →
-      IsAnswer (IsOutcomeFor t limit) states answer
+  answer_within : (t : Tree) → nodes (beside t no_trees) ≤ limit → HasOutcome table w limit (Parsed t) → (answer : Result ParseTree (InterpretError L)) → ReportsOutcome (HasOutcome table w limit) states answer →
+      ReportsOutcome (IsOutcomeFor t limit) states answer
   answer_within t l k (Ok tree) h = let e = same_outcome (Parsed (tree_of tree)) (Parsed t) h k in (cc, l)
   answer_within t l k (Err (RefusedBy state token)) h = absurd (let e = same_outcome (Refused h.0 token) (Parsed t) h.2 k in cc)
   answer_within t l k (Err LimitPassed) h = absurd (let e = same_outcome Limit (Parsed t) h k in cc)
   answer_within t l k (Err Memory) h = tt
 
-  answer_beyond : (t : Tree) → limit < nodes (beside t no_trees) → HasOutcome table w limit Limit → (answer : Result ParseTree (InterpretError L)) → IsAnswer (HasOutcome table w limit) states answer →
-      IsAnswer (IsOutcomeFor t limit) states answer
+  answer_beyond : (t : Tree) → limit < nodes (beside t no_trees) → HasOutcome table w limit Limit → (answer : Result ParseTree (InterpretError L)) → ReportsOutcome (HasOutcome table w limit) states answer →
+      ReportsOutcome (IsOutcomeFor t limit) states answer
   answer_beyond t l k (Ok tree) h = absurd (let e = same_outcome (Parsed (tree_of tree)) Limit h k in cc)
   answer_beyond t l k (Err (RefusedBy state token)) h = absurd (let e = same_outcome (Refused h.0 token) Limit h.2 k in cc)
   answer_beyond t l k (Err LimitPassed) h = l
   answer_beyond t l k (Err Memory) h = tt
 
   -- each list with a parse tree has its result
-  pub answers_trees : (answer : Result ParseTree (InterpretError L)) → IsAnswer (HasOutcome table w limit) states answer → ForEachGrammar table (AnswersTrees limit w states answer)
+  pub answers_trees : (answer : Result ParseTree (InterpretError L)) → ReportsOutcome (HasOutcome table w limit) states answer → ForEachGrammar table (AnswersTrees limit w states answer)
   answers_trees answer h g start faithful alone t parse = elim (less_or_not limit (nodes (beside t no_trees))) [
     | inl l ↦ answer_beyond t l (cut_off_before g start faithful alone t parse l) answer h
     | inr l ↦ answer_within t l (tree_parsed g start table faithful alone w t limit parse l) answer h
   ]
 
-  pub refusal_wrong : (answer : Result ParseTree (InterpretError L)) → IsAnswer (HasOutcome table w limit) states answer → IfErr answer (IfRefused (λ _ token. ForEachGrammar table (λ g start. IsFirstWrong g start w token)) states)
+  pub refusal_wrong : (answer : Result ParseTree (InterpretError L)) → ReportsOutcome (HasOutcome table w limit) states answer → IfErr answer (IfRefused (λ _ token. ForEachGrammar table (λ g start. IsFirstWrong g start w token)) states)
   refusal_wrong (Ok tree) h = tt
   refusal_wrong (Err (RefusedBy state token)) h = (h.0, h.1, λ g start faithful alone. refused_wrong g start table faithful alone w limit h.0 token h.2)
   refusal_wrong (Err LimitPassed) h = tt
   refusal_wrong (Err Memory) h = tt
 
-  pub refusal_prompt : (answer : Result ParseTree (InterpretError L)) → IsAnswer (HasOutcome table w limit) states answer → IfErr answer (IfRefused (λ s token. ForEachCanonical table (λ g start. IsPromptRefusal g start table w s token)) states)
+  pub refusal_prompt : (answer : Result ParseTree (InterpretError L)) → ReportsOutcome (HasOutcome table w limit) states answer → IfErr answer (IfRefused (λ s token. ForEachCanonical table (λ g start. IsPromptRefusal g start table w s token)) states)
   refusal_prompt (Ok tree) h = tt
   refusal_prompt (Err (RefusedBy state token)) h = (h.0, h.1, λ g start tokens canonical lr1 alone. refused_promptly g start table (λ n p dot t. tokens n p dot t ≡ true) canonical lr1 alone w limit h.0 token h.2)
   refusal_prompt (Err LimitPassed) h = tt

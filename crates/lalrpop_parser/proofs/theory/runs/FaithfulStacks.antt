@@ -3,7 +3,7 @@ use Rattle.std.proofs.Common.{◌≡◌, ℕ, List, [], ◌∷◌, ◌++◌, map
 use Rattle.std.specs.Prelude.{Result, Ok, Err, IfOk}
 use Rattle.std.specs.declared.vec.Vec.{Vec}
 use Rattle.std.proofs.lemmas.List.{map-append}
-use Rattle.lalrpop_base.specs.Words.{number_of, IsBeginning, symbols_of, Derives, Configuration, begin, Reaches, Outcome, Refused, IsFirstWrong, at_terminal}
+use Rattle.lalrpop_base.specs.Words.{number_of, IsBeginning, terminal_symbols, Derives, Configuration, begin, Reaches, Outcome, Refused, IsFirstWrong, at_terminal}
 use Rattle.lalrpop_base.specs.Words.{at_end, Contents, AreFaithful}
 use Rattle.lalrpop_parser.proofs.Types.{NonterminalString, Production, State, StateIndex, TerminalString, Token}
 use Rattle.lalrpop_grammar.specs.declared.lookahead.token.Token.TheVariants.{Eof, Terminal as TokenOf}
@@ -21,12 +21,12 @@ use Rattle.lalrpop_parser.proofs.theory.runs.Outcomes.{reads_reaches}
 -- if a list is a beginning, so is each shorter one
 shorter_beginning : (g : List Production) (start : NonterminalString) (before : List TerminalString) (t : TerminalString) (after : List TerminalString) → IsBeginning g start (before ++ t ∷ after) → IsBeginning g start (before ++ t ∷ [])
 shorter_beginning g start before t after h =
-    let whole : symbols_of (before ++ t ∷ after) ++ h.0 ≡ symbols_of (before ++ t ∷ []) ++ (symbols_of after ++ h.0) =
+    let whole : terminal_symbols (before ++ t ∷ after) ++ h.0 ≡ terminal_symbols (before ++ t ∷ []) ++ (terminal_symbols after ++ h.0) =
     ap (λ l. l ++ h.0) (map-append Terminal before (t ∷ after))
-    ∙ append_assoc (symbols_of before) (Terminal t ∷ symbols_of after) h.0
-    ∙ sym (append_assoc (symbols_of before) (Terminal t ∷ []) (symbols_of after ++ h.0))
-    ∙ ap (λ l. l ++ (symbols_of after ++ h.0)) (sym (map-append Terminal before (t ∷ []))) in
-    (symbols_of after ++ h.0, subst (λ l. Derives g (Nonterminal start ∷ []) l) whole h.1)
+    ∙ append_assoc (terminal_symbols before) (Terminal t ∷ terminal_symbols after) h.0
+    ∙ sym (append_assoc (terminal_symbols before) (Terminal t ∷ []) (terminal_symbols after ++ h.0))
+    ∙ ap (λ l. l ++ (terminal_symbols after ++ h.0)) (sym (map-append Terminal before (t ∷ []))) in
+    (terminal_symbols after ++ h.0, subst (λ l. Derives g (Nonterminal start ∷ []) l) whole h.1)
 
 abbrev token_in : Token → Outcome → Token
 token_in t (Refused s u) = u

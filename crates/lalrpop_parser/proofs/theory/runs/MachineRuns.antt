@@ -15,7 +15,7 @@ use Rattle.lalrpop_grammar.specs.declared.lookahead.token.Token.TheVariants.{Eof
 use Rattle.lalrpop_states.proofs.theory.states.ContentsViews.{LeadAsItemsSay, lead_as_items_say}
 use Rattle.lalrpop_parser.specs.Words.{numbers, trees_on, configuration, IsStacked, CanPop, reduction_move, IsProgress, IsHalted, IsSpent, IsShifted, HasRead}
 use Rattle.lalrpop_parser.specs.Words.{Reads, before, StopsReading, stuck, early_end, cut_off, PartialOutcome, Stop, tree_of, HasOutcomeFrom, parsed_from}
-use Rattle.lalrpop_parser.specs.Words.{stuck_from, other_end_from, cut_off_from, IsFailure, IsAnswer, IsPartialAnswer}
+use Rattle.lalrpop_parser.specs.Words.{stuck_from, other_end_from, cut_off_from, IsFailure, ReportsOutcome, IsPartialAnswer}
 use Rattle.lalrpop_parser.specs.runs.Reading.{read}
 use Rattle.lalrpop_parser.specs.declared.interpret.tree.ParseTree.{ParseTree}
 use Rattle.lalrpop_parser.specs.declared.interpret.error.InterpretError.{InterpretError}
@@ -219,7 +219,7 @@ fail_later {states} {b} {left} list m all rest t r e error h =
 pub ended_answer : {L : Type 0} {states : ℕ → Contents} {b : Configuration} {left : ℕ} (list : List (State L)) (m : Machine) (state : Bor (State L)) (trees : List Tree) → HasReached states b left m →
     slice_get list m.state.0 ≡ Some state.now → move states (configuration m []) ≡ Ends trees → 0 < m.left →
     (o : Option ParseTree) → IfSome o (λ tree. trees ≡ tree_of tree ∷ []) → (IsNone o → (t : Tree) → trees ≡ t ∷ [] → ⊥) →
-    IsAnswer (HasOutcomeFrom states b left) list (ok_or o (RefusedBy state Eof))
+    ReportsOutcome (HasOutcomeFrom states b left) list (ok_or o (RefusedBy state Eof))
 ended_answer list m state trees r there e some (Some tree) one other = ends_parsed m r trees (tree_of tree) e some one
 ended_answer list m state trees r there e some None one other = (m.state.0, there, ends_otherwise m r trees e some (other refl))
 
@@ -228,7 +228,7 @@ pub raised : {T E : Type 0} (Q : E → Type 0) (error : E) → Q error → (r : 
 raised Q error h (Ok v) k = absurd k
 raised Q error h (Err e) k = subst Q (sym k) h
 
-pub raised_answer : {L : Type 0} (R : Outcome → Type 0) (list : List (State L)) (error : InterpretError L) → IsFailure R list error → (r : Result ParseTree (InterpretError L)) → IsErrAnd r (λ e. e ≡ error) → IsAnswer R list r
+pub raised_answer : {L : Type 0} (R : Outcome → Type 0) (list : List (State L)) (error : InterpretError L) → IsFailure R list error → (r : Result ParseTree (InterpretError L)) → IsErrAnd r (λ e. e ≡ error) → ReportsOutcome R list r
 raised_answer R list error h (Ok v) k = absurd k
 raised_answer R list error h (Err e) k = subst (IsFailure R list) (sym k) h
 

@@ -14,8 +14,8 @@ use Rattle.lalrpop_grammar.specs.declared.repr.Symbol.TheVariants.{Nonterminal, 
 use Rattle.lalrpop_collections.proofs.theory.lists.Lists.{contains_of_map}
 use Rattle.lalrpop_state_graph.specs.Words.{AreCopies, Edge, edge, edges, edges_from, edges_of, goto_edges, index, IsGraphOf, origin_of, origins}
 use Rattle.lalrpop_state_graph.specs.Words.{origins_of, shift_edges, targets_from, targets_of}
-use Rattle.lalrpop_state_graph.specs.graphs.GraphCopies.{Origin, retraced, without, moved, followed_all, FollowsInTurn, StandAmong, FollowsEdges}
-use Rattle.lalrpop_state_graph.specs.graphs.StateGraph.{target_of, nothing, IsChangedAt, IsListedAt}
+use Rattle.lalrpop_state_graph.specs.graphs.GraphCopies.{Origin, retraced, without, origins_moved, followed_all, FollowsInTurn, StandAmong, FollowsEdges}
+use Rattle.lalrpop_state_graph.specs.graphs.StateGraph.{edge_target, nothing, IsChangedAt, IsListedAt}
 use Rattle.lalrpop_state_graph.specs.declared.state_graph.StateGraph.{StateGraph}
 use Rattle.lalrpop_states.proofs.theory.closures.Closing.{drop_split}
 use Rattle.lalrpop_state_graph.proofs.theory.states.EdgeLeads.{of_state, source_from}
@@ -74,7 +74,7 @@ module _ (originals : List ℕ) where
   none_from : (n : StateIndex) (es : List Edge) → ((e : Edge) → Contains es e → e.source.0 ≡ n.0 → ⊥) → targets_from n es ≡ []
   none_from n [] none = refl
   none_from n (e ∷ es) none =
-      ap (λ b. map target_of (cond b (e ∷ filter (λ (d : Edge). d.source.0 == n.0) es) (filter (λ (d : Edge). d.source.0 == n.0) es))) (ne_eqb e.source.0 n.0 (none e (contains_head e es)))
+      ap (λ b. map edge_target (cond b (e ∷ filter (λ (d : Edge). d.source.0 == n.0) es) (filter (λ (d : Edge). d.source.0 == n.0) es))) (ne_eqb e.source.0 n.0 (none e (contains_head e es)))
       ∙ none_from n es (λ f c. none f (contains_tail e es f c))
 
   of_source : {L : Type 0} (n : StateIndex) (state : State L) (e : Edge) → Contains (edges_of n state) e → e.source.0 ≡ n.0
@@ -194,18 +194,18 @@ module _ (handed states : List (State Bits)) (originals : List ℕ) (copies : Ar
 -- ---- the update of one edge
 pub edge_stays : (originals : List ℕ) (e : Edge) (old : StateGraph) (listed : Vec (Vec StateIndex Global) Global) → IsListedAt e.source.0 e.target old.successors.items listed.items → number_in originals e.target.0 ≡ e.target.0 → FollowsInTurn originals (e ∷ []) old (record old { successors = listed })
 edge_stays originals e old listed more same = record {
-  targets = λ n. more n.0 ∙ ap (λ ts. targets_of old n ++ ts) (map_cond target_of (e.source.0 == n.0) e);
-  sources = λ n. sym (ap (λ b. cond b (origins_of old n) (moved (number_in originals e.target.0) e n.0 (origins_of old n))) (eq-eqb (number_in originals e.target.0) e.target.0 same));
+  targets = λ n. more n.0 ∙ ap (λ ts. targets_of old n ++ ts) (map_cond edge_target (e.source.0 == n.0) e);
+  sources = λ n. sym (ap (λ b. cond b (origins_of old n) (origins_moved (number_in originals e.target.0) e n.0 (origins_of old n))) (eq-eqb (number_in originals e.target.0) e.target.0 same));
 }
 
 pub edge_moves : (originals : List ℕ) (e : Edge) (was : ℕ) (old : StateGraph) (listed : Vec (Vec StateIndex Global) Global) (gone come : Vec (Vec Origin Global) Global) → was ≡ number_in originals e.target.0 → (was ≡ e.target.0 → ⊥) → IsListedAt e.source.0 e.target old.successors.items listed.items →
     IsChangedAt was (without e) old.predecessors.items gone.items → IsListedAt e.target.0 (origin_of e) gone.items come.items → FollowsInTurn originals (e ∷ []) old (record { successors = listed; predecessors = come })
 edge_moves originals e was old listed gone come is differs more left came = record {
-  targets = λ n. more n.0 ∙ ap (λ ts. targets_of old n ++ ts) (map_cond target_of (e.source.0 == n.0) e);
+  targets = λ n. more n.0 ∙ ap (λ ts. targets_of old n ++ ts) (map_cond edge_target (e.source.0 == n.0) e);
   sources = λ n.
       came n.0 ∙ ap (λ os. os ++ cond (e.target.0 == n.0) (origin_of e ∷ []) []) (left n.0)
-      ∙ ap (λ k. moved k e n.0 (origins_of old n)) is
-      ∙ sym (ap (λ b. cond b (origins_of old n) (moved (number_in originals e.target.0) e n.0 (origins_of old n))) (ne_eqb (number_in originals e.target.0) e.target.0 (λ same. differs (is ∙ same))));
+      ∙ ap (λ k. origins_moved k e n.0 (origins_of old n)) is
+      ∙ sym (ap (λ b. cond b (origins_of old n) (origins_moved (number_in originals e.target.0) e n.0 (origins_of old n))) (ne_eqb (number_in originals e.target.0) e.target.0 (λ same. differs (is ∙ same))));
 }
 
 -- ---- the update of edges in turn

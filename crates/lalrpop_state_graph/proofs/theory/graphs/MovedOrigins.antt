@@ -12,7 +12,7 @@ use Rattle.lalrpop_state_graph.proofs.Types.{StateIndex, Symbol}
 use Rattle.lalrpop_collections.proofs.theory.lists.Lists.{contains_of_map}
 use Rattle.lalrpop_base.specs.Words.{number_in}
 use Rattle.lalrpop_state_graph.specs.Words.{Edge, edge, list_at, origin_of, origins}
-use Rattle.lalrpop_state_graph.specs.graphs.GraphCopies.{Origin, retraced, is_other, without, moved, followed, followed_all}
+use Rattle.lalrpop_state_graph.specs.graphs.GraphCopies.{Origin, retraced, is_other, without, origins_moved, origins_after_move, followed_all}
 use Rattle.lalrpop_state_graph.specs.graphs.StateGraph.{IsChangedAt}
 use Rattle.lalrpop_collections.proofs.theory.lists.Members.{contains_head, contains_tail}
 use Rattle.lalrpop_state_graph.proofs.theory.graphs.StateGraphs.{list_changed, list_past, list_there, origins_append}
@@ -134,7 +134,7 @@ module _ (originals : List ℕ) where
         )
 
     -- the origins of the state from which the edge is moved are right
-    went : (was ≡ e.target.0 → ⊥) → (was == n.0) ≡ true → moved was e n.0 (origins n (front ++ retraced originals e ∷ back)) ≡ origins n (front ++ e ∷ back)
+    went : (was ≡ e.target.0 → ⊥) → (was == n.0) ≡ true → origins_moved was e n.0 (origins n (front ++ retraced originals e ∷ back)) ≡ origins n (front ++ e ∷ back)
     went differs here =
         let elsewhere : (e.target.0 == n.0) ≡ false = ne_eqb e.target.0 n.0 (λ is. differs (eqb-true was n.0 here ∙ sym is)) in
         let old = origins n (front ++ retraced originals e ∷ back) in
@@ -162,7 +162,7 @@ module _ (originals : List ℕ) where
     ]
 
     -- the origins of any other state are right: the edge is added if it leads there
-    came : (was ≡ e.target.0 → ⊥) → (was == n.0) ≡ false → moved was e n.0 (origins n (front ++ retraced originals e ∷ back)) ≡ origins n (front ++ e ∷ back)
+    came : (was ≡ e.target.0 → ⊥) → (was == n.0) ≡ false → origins_moved was e n.0 (origins n (front ++ retraced originals e ∷ back)) ≡ origins n (front ++ e ∷ back)
     came differs away =
         let old = origins n (front ++ retraced originals e ∷ back) in
         ap (λ b. cond b (without e old) old ++ its n.0 e) away
@@ -173,12 +173,12 @@ module _ (originals : List ℕ) where
     same_edge : was ≡ e.target.0 → retraced originals e ≡ e
     same_edge is = ap (λ (k : ℕ). edge e.source e.symbol (record { 0 = k })) is
 
-    pub one_followed : followed originals e n.0 (origins n (front ++ retraced originals e ∷ back)) ≡ origins n (front ++ e ∷ back)
+    pub one_followed : origins_after_move originals e n.0 (origins n (front ++ retraced originals e ∷ back)) ≡ origins n (front ++ e ∷ back)
     one_followed =
         let old = origins n (front ++ retraced originals e ∷ back) in
         elim (cases_Bool (was == e.target.0)) [
-          | inl same ↦ ap (λ b. cond b old (moved was e n.0 old)) same ∙ ap (λ f. origins n (front ++ f ∷ back)) (same_edge (eqb-true was e.target.0 same))
-          | inr differs ↦ ap (λ b. cond b old (moved was e n.0 old)) differs ∙ elim (cases_Bool (was == n.0)) [
+          | inl same ↦ ap (λ b. cond b old (origins_moved was e n.0 old)) same ∙ ap (λ f. origins n (front ++ f ∷ back)) (same_edge (eqb-true was e.target.0 same))
+          | inr differs ↦ ap (λ b. cond b old (origins_moved was e n.0 old)) differs ∙ elim (cases_Bool (was == n.0)) [
             | inl here ↦ went (eqb-false was e.target.0 differs) here
             | inr away ↦ came (eqb-false was e.target.0 differs) away
           ]
@@ -208,4 +208,4 @@ module _ (originals : List ℕ) where
   -- moving two lists of edges is moving one and then the other
   pub followed_append : (es fs : List Edge) (n : ℕ) (os : List Origin) → followed_all originals (es ++ fs) n os ≡ followed_all originals fs n (followed_all originals es n os)
   followed_append [] fs n os = refl
-  followed_append (e ∷ es) fs n os = followed_append es fs n (followed originals e n os)
+  followed_append (e ∷ es) fs n os = followed_append es fs n (origins_after_move originals e n os)

@@ -16,7 +16,7 @@ use Rattle.lalrpop_grammar.specs.contracts.repr.SymbolEq.TheImpl.Laws as symbol_
 use Rattle.lalrpop_grammar.specs.contracts.repr.exact.SymbolExact.TheImpl as symbol_exactly
 use Rattle.lalrpop_state_graph.specs.Words.{Edge, edge, edge_from, edges, edges_of, goto_edges, shift_edges, edges_from, targets_from, origins, origin_of, list_at, listed, state_cmp, targets_of, origins_of}
 use Rattle.lalrpop_state_graph.specs.Words.{with_symbol, AreSameLists, IsGrown, IsGraphOf, IsListedAt}
-use Rattle.lalrpop_state_graph.specs.graphs.StateGraph.{target_of}
+use Rattle.lalrpop_state_graph.specs.graphs.StateGraph.{edge_target}
 use Rattle.lalrpop_state_graph.specs.declared.state_graph.StateGraph.{StateGraph}
 use Rattle.lalrpop_states.proofs.theory.collapse.Merging.{set_here, set_elsewhere}
 use Rattle.lalrpop_collections.proofs.theory.lists.Places.{slice_get_at}
@@ -80,7 +80,7 @@ edges_listed n [] (e ∷ gotos) = ap (λ es. edge n (Nonterminal e.0) e.1 ∷ es
 edges_listed n (e ∷ shifts) gotos = ap (λ es. edge n (Terminal e.0) e.1 ∷ es) (edges_listed n shifts gotos)
 
 pub targets_append : (n : StateIndex) (es fs : List Edge) → targets_from n (es ++ fs) ≡ targets_from n es ++ targets_from n fs
-targets_append n es fs = ap (map target_of) (filter-append (λ (e : Edge). e.source.0 == n.0) es fs) ∙ map-append target_of _ _
+targets_append n es fs = ap (map edge_target) (filter-append (λ (e : Edge). e.source.0 == n.0) es fs) ∙ map-append edge_target _ _
 
 pub origins_append : (n : StateIndex) (es fs : List Edge) → origins n (es ++ fs) ≡ origins n es ++ origins n fs
 origins_append n es fs = ap (map origin_of) (filter-append (λ (e : Edge). e.target.0 == n.0) es fs) ∙ map-append origin_of _ _

@@ -8,7 +8,7 @@ use Rattle.lalrpop_states.proofs.Types.{Nil, Production, Symbol, Token}
 use Rattle.lalrpop_grammar.specs.declared.repr.Symbol.TheVariants.{Nonterminal}
 use Rattle.lalrpop_collections.proofs.theory.lists.Lists.{contains_of_map}
 use Rattle.lalrpop_states.specs.closures.Closure.{dotted_of}
-use Rattle.lalrpop_states.specs.Words.{InKernel, HasItemToken, InTokenClosureBy, own_token, from_rest, from_parent, Found, item_of, HasGiven, IsTokenClosed}
+use Rattle.lalrpop_states.specs.Words.{InKernel, HasItemToken, InTokenClosureBy, own_token, from_rest, from_parent, ClosureTable, item_of, HasPropagated, IsTokenClosed}
 use Rattle.lalrpop_states.proofs.theory.grammars.KnownTerminals.{holds_more}
 use Rattle.lalrpop_collections.proofs.theory.lists.Members.{contains_map}
 use Rattle.lalrpop_collections.proofs.theory.lists.Places.{same_some}
@@ -37,7 +37,7 @@ module _ (begins : Rules → List Symbol → Token → Type 0) (passes : Rules �
     ReachedWith = InTokenClosureBy (begins g) (passes g) g.productions Reached (HasItemToken g.terminals kernel)
 
     -- ---- a table that is closed
-    module _ (table : Found) (end : IsTokenClosed begins passes g kernel table) where
+    module _ (table : ClosureTable) (end : IsTokenClosed begins passes g kernel table) where
       -- a dotted production of the table has an entry
       listed : (p : Production) (dot : ℕ) → InKernel (map item_of table) p dot → (e : Entry) × Contains table e × (dotted_of e.0 ≡ (p, dot))
       listed p dot h =
@@ -51,7 +51,7 @@ module _ (begins : Rules → List Symbol → Token → Type 0) (passes : Rules �
       entry_behind : (e : Entry) (p : Production) (dot : ℕ) (l : List Symbol) → dotted_of e.0 ≡ (p, dot) → drop dot p.symbols ≡ l → drop e.0.index e.0.production.symbols ≡ l
       entry_behind e p dot l s h = ap (λ (d : Production × ℕ). drop d.1 d.0.symbols) s ∙ h
 
-      given_dotted : (tokens : Bits) (q : Production) (after : List Symbol) (h : HasGiven begins passes g table tokens q after) → dotted_of h.key ≡ (q, 0)
+      given_dotted : (tokens : Bits) (q : Production) (after : List Symbol) (h : HasPropagated begins passes g table tokens q after) → dotted_of h.key ≡ (q, 0)
       given_dotted tokens q after h = ap (λ (p : Production). (p, h.key.index)) h.production ∙ ap (λ (n : ℕ). (q, n)) h.start
 
       pub all_listed : {p : Production} {dot : ℕ} → Reached p dot → InKernel (map item_of table) p dot

@@ -18,7 +18,7 @@ use Rattle.lalrpop_states.specs.declared.lr1_core.state.Action.TheVariants.{Redu
 use Rattle.lalrpop_grammar.specs.contracts.repr.TerminalStringPartialEq.TheImpl as terminal
 use Rattle.lalrpop_grammar.specs.contracts.repr.TerminalStringEq.TheImpl.Laws as equality
 use Rattle.lalrpop_grammar.specs.contracts.repr.exact.TerminalStringExact.TheImpl.Laws.{exact-law}
-use Rattle.lalrpop_states.specs.conflicts.StateConflicts.{Reduction, HasNoConflict}
+use Rattle.lalrpop_states.specs.conflicts.StateConflicts.{StateReduction, IsConflictFree}
 use Rattle.lalrpop_collections.proofs.theory.lists.RisingLemmas.{filter_bits}
 
 -- the bit that a set of terminals returns is the place of the terminal
@@ -87,10 +87,10 @@ pub meet_is : (s t both : Bits) → ((q : ℕ) → has both q ≡ (has s q && ha
 meet_is s t both h = same_bits both (meet s t) (λ q. h q ∙ sym (filter_bits (λ b. has t b) s q))
 
 -- two reductions share a token, or they do not
-pub later_none : (state : StateIndex) (r s : Reduction) (list : List (Conflict Bits)) → ((b : ℕ) → has r.0 b ≡ true → has s.0 b ≡ true → ⊥) → list ≡ list ++ later_conflicts state r (s ∷ [])
+pub later_none : (state : StateIndex) (r s : StateReduction) (list : List (Conflict Bits)) → ((b : ℕ) → has r.0 b ≡ true → has s.0 b ≡ true → ⊥) → list ≡ list ++ later_conflicts state r (s ∷ [])
 later_none state r s list out = sym (ap (λ t. list ++ map (reduce_conflict state r) (cond t (s ∷ []) [])) (share_none r.0 s.0 out) ∙ append-nil list)
 
-pub later_one : (state : StateIndex) (r s : Reduction) (list new : List (Conflict Bits)) (both : Bits) → (b : ℕ) × (has r.0 b ≡ true) × (has s.0 b ≡ true) → ((q : ℕ) → has both q ≡ (has r.0 q && has s.0 q)) →
+pub later_one : (state : StateIndex) (r s : StateReduction) (list new : List (Conflict Bits)) (both : Bits) → (b : ℕ) × (has r.0 b ≡ true) × (has s.0 b ≡ true) → ((q : ℕ) → has both q ≡ (has r.0 q && has s.0 q)) →
     new ≡ list ++ record { state = state; lookahead = both; production = r.1; action = Reduce s.1 } ∷ [] → new ≡ list ++ later_conflicts state r (s ∷ [])
 later_one state r s list new both some meets grown =
     let one : Bits → Conflict Bits = λ l. record { state = state; lookahead = l; production = r.1; action = Reduce s.1 } in
@@ -98,7 +98,7 @@ later_one state r s list new both some meets grown =
     ∙ sym (ap (λ t. list ++ map (reduce_conflict state r) (cond t (s ∷ []) [])) (shared r.0 s.0 some.0 some.1 some.2))
 
 -- the list of conflicts after one more shift
-pub shift_more : (terminals : List TerminalString) (state : StateIndex) (rs : List Reduction) (list new start : List (Conflict Bits)) (whole before rest : List (TerminalString × StateIndex)) (e : TerminalString × StateIndex) →
+pub shift_more : (terminals : List TerminalString) (state : StateIndex) (rs : List StateReduction) (list new start : List (Conflict Bits)) (whole before rest : List (TerminalString × StateIndex)) (e : TerminalString × StateIndex) →
     before ≡ e ∷ rest → list ++ flat_map (shift_conflicts terminals state rs) before ≡ start ++ flat_map (shift_conflicts terminals state rs) whole → new ≡ list ++ shift_conflicts terminals state rs e →
     new ++ flat_map (shift_conflicts terminals state rs) rest ≡ start ++ flat_map (shift_conflicts terminals state rs) whole
 shift_more terminals state rs list new start whole before rest e is so_far grown =
@@ -109,9 +109,9 @@ pub both_empty : {X : Type 0} (xs ys : List X) → xs ++ ys ≡ [] → (xs ≡ [
 both_empty [] ys e = (refl, e)
 both_empty (x ∷ xs) ys e = cc
 
-module _ (terminals : List TerminalString) (state : StateIndex) (rs : List Reduction) where
+module _ (terminals : List TerminalString) (state : StateIndex) (rs : List StateReduction) where
   none_shifted : (entries : List (TerminalString × StateIndex)) → flat_map (shift_conflicts terminals state rs) entries ≡ [] →
-      (k j bit : ℕ) (t : TerminalString) (target : StateIndex) (r : Reduction) → slice_get entries k ≡ Some (t, target) → place_in terminals t ≡ Some bit → slice_get rs j ≡ Some r → has r.0 bit ≡ true → ⊥
+      (k j bit : ℕ) (t : TerminalString) (target : StateIndex) (r : StateReduction) → slice_get entries k ≡ Some (t, target) → place_in terminals t ≡ Some bit → slice_get rs j ≡ Some r → has r.0 bit ≡ true → ⊥
   none_shifted [] e k j bit t target r at place there holds = cc
   none_shifted (x ∷ entries) e zero j bit t target r at place there holds =
       let first = (both_empty (shift_conflicts terminals state rs x) (flat_map (shift_conflicts terminals state rs) entries) e).0 in
@@ -122,7 +122,7 @@ module _ (terminals : List TerminalString) (state : StateIndex) (rs : List Reduc
       none_shifted entries (both_empty (shift_conflicts terminals state rs x) (flat_map (shift_conflicts terminals state rs) entries) e).1 k j bit t target r at place there holds
 
   no_shifted : (entries : List (TerminalString × StateIndex)) →
-      ((k j bit : ℕ) (t : TerminalString) (target : StateIndex) (r : Reduction) → slice_get entries k ≡ Some (t, target) → place_in terminals t ≡ Some bit → slice_get rs j ≡ Some r → has r.0 bit ≡ true → ⊥) →
+      ((k j bit : ℕ) (t : TerminalString) (target : StateIndex) (r : StateReduction) → slice_get entries k ≡ Some (t, target) → place_in terminals t ≡ Some bit → slice_get rs j ≡ Some r → has r.0 bit ≡ true → ⊥) →
       flat_map (shift_conflicts terminals state rs) entries ≡ []
   no_shifted [] out = refl
   no_shifted ((t, target) ∷ entries) out =
@@ -135,8 +135,8 @@ module _ (terminals : List TerminalString) (state : StateIndex) (rs : List Reduc
           ∙ kept_none (shift_conflict state t target bit) (λ s. has s.0 bit) rs (λ j r at. ⊎_elim (λ h. absurd (out 0 j bit t target r refl e at h)) (λ f. f) (cases_Bool (has r.0 bit)))
 
 module _ (state : StateIndex) where
-  none_reduced : (rs : List Reduction) → reduce_conflicts state rs ≡ [] →
-      (i j bit : ℕ) (r s : Reduction) → i < j → slice_get rs i ≡ Some r → slice_get rs j ≡ Some s → has r.0 bit ≡ true → has s.0 bit ≡ true → ⊥
+  none_reduced : (rs : List StateReduction) → reduce_conflicts state rs ≡ [] →
+      (i j bit : ℕ) (r s : StateReduction) → i < j → slice_get rs i ≡ Some r → slice_get rs j ≡ Some s → has r.0 bit ≡ true → has s.0 bit ≡ true → ⊥
   none_reduced [] e i j bit r s l at there here holds = cc
   none_reduced (x ∷ rs) e i zero bit r s l at there here holds = omega arith
   none_reduced (x ∷ rs) e zero (suc j) bit r s l at there here holds =
@@ -146,7 +146,7 @@ module _ (state : StateIndex) where
   none_reduced (x ∷ rs) e (suc i) (suc j) bit r s l at there here holds =
       none_reduced rs (both_empty (later_conflicts state x rs) (reduce_conflicts state rs) e).1 i j bit r s (omega arith) at there here holds
 
-  no_reduced : (rs : List Reduction) → ((i j bit : ℕ) (r s : Reduction) → i < j → slice_get rs i ≡ Some r → slice_get rs j ≡ Some s → has r.0 bit ≡ true → has s.0 bit ≡ true → ⊥) →
+  no_reduced : (rs : List StateReduction) → ((i j bit : ℕ) (r s : StateReduction) → i < j → slice_get rs i ≡ Some r → slice_get rs j ≡ Some s → has r.0 bit ≡ true → has s.0 bit ≡ true → ⊥) →
       reduce_conflicts state rs ≡ []
   no_reduced [] out = refl
   no_reduced (x ∷ rs) out =
@@ -155,7 +155,7 @@ module _ (state : StateIndex) where
       ∙ no_reduced rs (λ i j bit r s l at there here holds. out (suc i) (suc j) bit r s (omega arith) at there here holds)
 
 -- the list is empty exactly if the state has no conflict
-pub none_exactly : (terminals : List TerminalString) (state : State Bits) → (state_conflicts terminals state ≡ []) ↔ HasNoConflict terminals state
+pub none_exactly : (terminals : List TerminalString) (state : State Bits) → (state_conflicts terminals state ≡ []) ↔ IsConflictFree terminals state
 none_exactly terminals state = (
   λ e. let parts = both_empty (flat_map (shift_conflicts terminals state.index state.reductions.items) state.shifts.entries) (reduce_conflicts state.index state.reductions.items) e in record {
     shifts = none_shifted terminals state.index state.reductions.items state.shifts.entries parts.0;

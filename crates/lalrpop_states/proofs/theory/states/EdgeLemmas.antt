@@ -6,7 +6,7 @@ use Rattle.lalrpop_grammar.specs.declared.repr.NonterminalString.{NonterminalStr
 use Rattle.lalrpop_grammar.specs.declared.repr.TerminalString.{TerminalString}
 use Rattle.lalrpop_grammar.specs.declared.repr.Symbol.TheVariants.{Nonterminal, Terminal}
 use Rattle.lalrpop_states.specs.declared.lr1_core.state.StateIndex.{StateIndex}
-use Rattle.lalrpop_states.specs.states.Edges.{Edge, goto_edge, shift_edge, state_edges}
+use Rattle.lalrpop_states.specs.states.Edges.{StateEdge, goto_edge, shift_edge, state_edges}
 
 module _ {X Y : Type 0} (f : X → Y) (P : Y → Type 0) where
   -- a fact of the image of each item is one of each image
@@ -36,7 +36,7 @@ module _ {X : Type 0} (P : X → Type 0) where
   each_right [] ys each = each
   each_right (x ∷ xs) ys each = each_right xs ys (λ j z there. each (suc j) z there)
 
-module _ (P : Edge → Type 0) (shifts : List (TerminalString × StateIndex)) (gotos : List (NonterminalString × StateIndex)) where
+module _ (P : StateEdge → Type 0) (shifts : List (TerminalString × StateIndex)) (gotos : List (NonterminalString × StateIndex)) where
   -- a fact of each shift and of each goto is one of each edge
   pub each_edge : EachEntry (λ t target. P (Terminal t, target)) shifts → EachEntry (λ name target. P (Nonterminal name, target)) gotos → EachItem P (state_edges shifts gotos)
   each_edge left right = each_append P (map shift_edge shifts) (map goto_edge gotos) (each_of_map shift_edge P shifts left) (each_of_map goto_edge P gotos right)

@@ -1,5 +1,5 @@
 use Rattle.lalrpop_tables.proofs.theory.collapse.CollapseLalr.{Collapse-tells}
-use Rattle.lalrpop_tables.proofs.theory.collapse.CollapseTold.{Collapse-coherent, Collapse-some}
+use Rattle.lalrpop_tables.proofs.theory.collapse.CollapseResults.{Collapse-coherent, Collapse-some}
 use Rattle.lalrpop_tables.proofs.build_lalr.collapse_to_lalr_states.Goals as goal
 
 pub returns-clause-coherent : goal.returns-clause-coherent

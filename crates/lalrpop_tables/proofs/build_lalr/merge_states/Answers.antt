@@ -5,7 +5,7 @@ use Rattle.lalrpop_base.specs.Words.{Bits, state_conflicts, AreFirstNumbers, Are
 use Rattle.lalrpop_tables.specs.Words.{dots_in, IsCollapsed, AreOrdered}
 use Rattle.lalrpop_tables.proofs.Types.{State}
 use Rattle.lalrpop_collections.proofs.theory.lists.BothFacts.{MatchResult-both}
-use Rattle.lalrpop_tables.proofs.theory.collapse.CollapseTold.{Answer-ordered}
+use Rattle.lalrpop_tables.proofs.theory.collapse.CollapseResults.{Answer-ordered}
 use Rattle.lalrpop_tables.proofs.theory.collapse.MergedCollapse.{Merged-collapsed, Collapse-tables, Collapse-failure}
 use Rattle.lalrpop_tables.proofs.build_lalr.merge_states.Goals as goal
 

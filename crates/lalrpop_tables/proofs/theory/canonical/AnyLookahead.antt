@@ -4,7 +4,7 @@ use Rattle.std.proofs.Common.{ℕ, List, refl}
 use Rattle.lalrpop_base.specs.Words.{Bits, rules_of, AreOwn}
 use Rattle.lalrpop_construction.specs.Words.{AreLr0States, HasLr0States, FailsAfterLr0}
 use Rattle.lalrpop_tables.proofs.Types.{BuildError, Grammar, Nil, NonterminalString, State}
-use Rattle.lalrpop_tables.specs.Words.{IsKeptGrammar, AreSetTables, StopsWithSets, AreNilTables, StopsWithNil, lr0_of}
+use Rattle.lalrpop_tables.specs.Words.{IsKeptGrammar, AreSetTables, StopsWithSets, AreNilTables, StopsWithNil, lr0_construction}
 use Rattle.lalrpop_construction.specs.Words.{AreCanonicalTables, FailsByConflicts}
 use Rattle.lalrpop_construction.proofs.theory.canonical.CanonicalAnswers.{Set-tables, Set-fails}
 use Rattle.lalrpop_grammar.proofs.theory.grammars.Grammars.{productions_own}
@@ -28,7 +28,7 @@ module _ (g : Grammar) (start : NonterminalString) (kept : IsKeptGrammar g) wher
   Law-nil-tables lookahead tables t = Tables-lr0 g start lookahead kept.well_formed own tables t
 
   pub Law-nil-errors : (lookahead : Nil) (error : BuildError Nil) → StopsWithNil g start lookahead 0 error → HasLr0States (rules_of g) start error
-  Law-nil-errors lookahead error f = Fails-lr0 g start lookahead kept.well_formed own error (Stops-fail nothing never stopped Lists (record { construction = lr0_of g start lookahead; stop_after = 0 }) error refl f)
+  Law-nil-errors lookahead error f = Fails-lr0 g start lookahead kept.well_formed own error (Stops-fail nothing never stopped Lists (record { construction = lr0_construction g start lookahead; stop_after = 0 }) error refl f)
 
   pub Law-nil-stops : (lookahead : Nil) (stop_after : ℕ) (error : BuildError Nil) → StopsWithNil g start lookahead stop_after error → FailsAfterLr0 (rules_of g) start stop_after error
   Law-nil-stops lookahead stop_after error f = stopped_after_lr0 g start lookahead kept.well_formed own stop_after error f

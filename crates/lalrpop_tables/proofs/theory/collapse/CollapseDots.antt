@@ -2,7 +2,7 @@
 use Rattle.std.proofs.Common.{◌≡◌, ℕ, zero, suc, ◌-◌, ◌<◌, List, length, map, refl, sym, ◌∙◌, ap, subst, arith, Some, option_map}
 use Rattle.std.specs.Prelude.{Contains, slice_get, unwrap_or}
 use Rattle.std.proofs.lemmas.Option.{slice_get_within, slice_get-map}
-use Rattle.lalrpop_base.specs.Words.{Bits, HasItem, IsShifted, IsCoherentEdge, dots, Ordered, Dotted, Precedes, Ascend, with_dot, number_in}
+use Rattle.lalrpop_base.specs.Words.{Bits, HasItem, IsShiftedFrom, IsCoherentEdge, dots, Ordered, Dotted, Precedes, Ascend, with_dot, number_in}
 use Rattle.lalrpop_tables.specs.Words.{dots_in, IsCollapsed}
 use Rattle.lalrpop_tables.proofs.Types.{Production, State, Symbol}
 use Rattle.lalrpop_collections.proofs.theory.lists.Lists.{some_of_map}
@@ -23,7 +23,7 @@ module _ {L : Type 0} where
   pub has_item_over : (xs ys : List (Dotted L)) → dots xs ≡ dots ys → (p : Production) (n : ℕ) → HasItem xs p n → HasItem ys p n
   has_item_over xs ys same p n (k, i, at, is) = let j = item_at xs ys same k i at in (k, j.0, j.1, record { same = j.2 ∙ is.same; dot = j.3 ∙ is.dot })
 
-  shifted_over : (xs ys : List (Dotted L)) (x : Symbol) (i j : Dotted L) → dots xs ≡ dots ys → j.production ≡ i.production → j.index ≡ i.index → IsShifted xs x i → IsShifted ys x j
+  shifted_over : (xs ys : List (Dotted L)) (x : Symbol) (i j : Dotted L) → dots xs ≡ dots ys → j.production ≡ i.production → j.index ≡ i.index → IsShiftedFrom xs x i → IsShiftedFrom ys x j
   shifted_over xs ys x i j same p n s = record {
     over = subst (λ (q : Production). slice_get q.symbols (j.index - 1) ≡ Some x) (sym p) (subst (λ (m : ℕ). slice_get i.production.symbols (m - 1) ≡ Some x) (sym n) s.over);
     origin = subst (λ (q : Production). HasItem ys q (j.index - 1)) (sym p) (subst (λ (m : ℕ). HasItem ys i.production (m - 1)) (sym n) (has_item_over xs ys same i.production (i.index - 1) s.origin));

@@ -5,7 +5,7 @@ use Rattle.std.specs.Prelude.{slice_get, MatchResult}
 use Rattle.std.specs.declared.result.Result.{Result}
 use Rattle.std.specs.declared.result.Result.TheVariants.{Ok, Err}
 use Rattle.std.proofs.lemmas.Option.{slice_get_within}
-use Rattle.lalrpop_base.specs.Words.{Bits, contents_at, AreLr0, HoldLalrTokens, AllDiffer, Contents, state_after, HaveNoConflict, AreAllConflicts}
+use Rattle.lalrpop_base.specs.Words.{Bits, contents_at, AreLr0, HoldLalrTokens, AllDiffer, Contents, state_after, AreAllConflictFree, AreAllConflicts}
 use Rattle.lalrpop_base.specs.Words.{IsLR1, IsLALR1, productions}
 use Rattle.lalrpop_construction.specs.Words.{tokens_of, FitReductions, AreOrderedCanonical}
 use Rattle.lalrpop_tables.specs.Words.{IsCollapsed, AreCollapsedTables, FailsByCollapse}
@@ -44,14 +44,14 @@ module _ (g : Grammar) (start : NonterminalString) (differ : AllDiffer g.termina
   lalr_tokens = collapsed_tokens (productions g) start was tokens ordered.canonical.canonical group is (is_collapse g start before after ordered c)
 
   -- ---- without conflicts
-  free_at : HaveNoConflict g.terminals after → (n : ℕ) (o : Option (State Bits)) → slice_get after n ≡ o → HoldsNoConflict (contents_at (holds g start before after ordered c) o)
+  free_at : AreAllConflictFree g.terminals after → (n : ℕ) (o : Option (State Bits)) → slice_get after n ≡ o → HoldsNoConflict (contents_at (holds g start before after ordered c) o)
   free_at free n None at = nowhere_conflict
   free_at free n (Some s) at = free_contents g.terminals s (free n s at)
 
-  pub free_lalr : HaveNoConflict g.terminals after → IsLALR1 (productions g) start
+  pub free_lalr : AreAllConflictFree g.terminals after → IsLALR1 (productions g) start
   free_lalr free = no_conflict_lalr (productions g) start is lr0 lalr_tokens (λ u n live at. free_at free n (slice_get after n) refl)
 
-  pub free_tables : HaveNoConflict g.terminals after → AreLalrTables g start after
+  pub free_tables : AreAllConflictFree g.terminals after → AreLalrTables g start after
   free_tables free = record { lalr = free_lalr free; faithful = lalr_faithful (productions g) start is lr0 lalr_tokens (free_lalr free) }
 
   -- ---- if the grammar is LALR(1)
@@ -68,7 +68,7 @@ module _ (g : Grammar) (start : NonterminalString) (differ : AllDiffer g.termina
       let (s, member, on) = ((c.each k merged there).holds r.1.now bit).0 (r, among, refl, h) in
       ordered.fit member.0 s member.1 on.0 on.1 bit on.3
 
-  pub lalr_free : IsLALR1 (productions g) start → HaveNoConflict g.terminals after
+  pub lalr_free : IsLALR1 (productions g) start → AreAllConflictFree g.terminals after
   lalr_free lalr k merged there =
       let (s, member, none) = (c.each k merged there).some in
       let v = reached_live (productions g) start was ordered.canonical.canonical.closed (ordered.canonical.reached member.0 (slice_get_within before member.0 s member.1)) in
@@ -86,7 +86,7 @@ error_tells g start differ before built Memory f = tt
 
 pub Collapse-tells : {T : Type 0} (items : T → List (State Bits)) (g : Grammar) (start : NonterminalString) (terminals : List TerminalString) → AllDiffer terminals → g.terminals ≡ terminals → (before : List (State Bits)) → AreOrderedCanonical g start before → (r : Result T (BuildError Bits)) →
     MatchResult r (λ t. AreCollapsedTables terminals before (items t)) (FailsByCollapse terminals before) → MatchResult r (λ t. AreLalrTables g start (items t)) (TellsNotLALR1 (productions g) start)
-Collapse-tells items g start terminals differ same before built (Ok t) h = free_tables g start (subst AllDiffer (sym same) differ) before (items t) built h.collapsed (subst (λ (ts : List TerminalString). HaveNoConflict ts (items t)) (sym same) h.free)
+Collapse-tells items g start terminals differ same before built (Ok t) h = free_tables g start (subst AllDiffer (sym same) differ) before (items t) built h.collapsed (subst (λ (ts : List TerminalString). AreAllConflictFree ts (items t)) (sym same) h.free)
 Collapse-tells items g start terminals differ same before built (Err e) h = error_tells g start (subst AllDiffer (sym same) differ) before built e (subst (λ (ts : List TerminalString). FailsByCollapse ts before e) (sym same) h)
 
 -- ---- LALR(1) grammars are LR(1)

@@ -14,7 +14,7 @@ use Rattle.lalrpop_grammar.specs.contracts.repr.TerminalStringOrd.TheImpl as ter
 use Rattle.lalrpop_tables.proofs.Types.{State, StateIndex}
 use Rattle.lalrpop_tables.specs.Words.{dots_in}
 use Rattle.lalrpop_base.specs.Words.{AreFirstNumbers, AreMoved, number_in, retargeted, retargeted_all, IsRenumberedState}
-use Rattle.lalrpop_tables.specs.collapse.Collapsed.{LeadsTo}
+use Rattle.lalrpop_tables.specs.collapse.Collapsed.{LeadsToRenumbered}
 use Rattle.lalrpop_tables.proofs.theory.collapse.MergedStates.{Agree, CanJoin, CanMerge}
 use Rattle.lr1_theory.proofs.theory.renumbering.Moved.{Moved-length, Moved-at}
 use Rattle.lalrpop_grammar.proofs.theory.grammars.NameOrders.{name_exact, terminal_exact, is_equal}
@@ -33,10 +33,10 @@ module _ {K : Type 0} (order : K → K → Ordering) (new : ℕ → ℕ) (edges 
   was_at None target e = cc
   was_at (Some old) target e = (old, refl, sym (same_some (retargeted new old) target e))
 
-  pub was : (key : K) (target : StateIndex) → get order led key ≡ Some target → LeadsTo order new edges key target
+  pub was : (key : K) (target : StateIndex) → get order led key ≡ Some target → LeadsToRenumbered order new edges key target
   was key target e = was_at (get order edges key) target (sym (under key) ∙ e)
 
-  pub goes : (key : K) (target : StateIndex) → LeadsTo order new edges key target → get order led key ≡ Some target
+  pub goes : (key : K) (target : StateIndex) → LeadsToRenumbered order new edges key target → get order led key ≡ Some target
   goes key target l = under key ∙ ap (option_map (retargeted new)) l.1 ∙ ap Some (sym l.2)
 
 -- ---- states under the numbers of their dotted productions

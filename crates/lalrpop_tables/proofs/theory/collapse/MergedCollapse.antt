@@ -10,9 +10,9 @@ use Rattle.lalrpop_base.specs.Words.{Bits, dots, AreCollapsible, state_conflicts
 use Rattle.lalrpop_grammar.specs.contracts.repr.TerminalStringOrd.TheImpl as terminal_ord
 use Rattle.lalrpop_tables.proofs.Types.{BuildError, Conflict, NonterminalString, Production, State, StateIndex, TerminalString}
 use Rattle.lalrpop_states.specs.declared.lr1_core.state.BuildError.TheVariants.{Conflicts, Memory}
-use Rattle.lalrpop_tables.specs.Words.{dots_in, HoldsAt, ReducesBy, ReducesOn, OfMember, IsMerge, IsNumbered, IsCollapsed, AreCollapsedTables, FailsByCollapse}
+use Rattle.lalrpop_tables.specs.Words.{dots_in, HoldsAt, ReducesBy, ReducesOn, OfMember, IsMerge, HasNewNumber, IsCollapsed, AreCollapsedTables, FailsByCollapse}
 use Rattle.lalrpop_states.specs.collapse.Merging.{ArePlaced}
-use Rattle.lalrpop_tables.specs.collapse.Collapsed.{LeadsTo}
+use Rattle.lalrpop_tables.specs.collapse.Collapsed.{LeadsToRenumbered}
 use Rattle.lalrpop_tables.proofs.theory.collapse.MergeableStates.{was, goes, as_many, moved_to, came_from, number_of_place, index_there, same_number, dots_moved, Numbered-merge}
 use Rattle.lalrpop_tables.proofs.theory.collapse.MergedStates.{Merges, HasNumber, AreMerged, Placed-merged}
 use Rattle.lalrpop_collections.proofs.theory.lists.Places.{same_some, filled}
@@ -33,7 +33,7 @@ module _ (before moved merged after : List (State Bits)) (numbers : List ℕ) (c
   are_merged = Placed-merged placed (Numbered-merge before moved numbers collapsible named under_new)
 
   -- a fact of a state with the number is one of a state that got the number
-  members : (k : ℕ) (P Q : State Bits → Type 0) → ((s t : State Bits) → IsRenumberedState new s t → P s ↔ Q t) → OfMember (HasNumber moved k) Q ↔ OfMember (IsNumbered new before k) P
+  members : (k : ℕ) (P Q : State Bits → Type 0) → ((s t : State Bits) → IsRenumberedState new s t → P s ↔ Q t) → OfMember (HasNumber moved k) Q ↔ OfMember (HasNewNumber new before k) P
   members k P Q same = (
     λ o.
         let s = came_from before moved numbers collapsible named under_new o.1.0 o.0 o.1.1 in
@@ -45,7 +45,7 @@ module _ (before moved merged after : List (State Bits)) (numbers : List ℕ) (c
 
   module _ (k : ℕ) (m state : State Bits) (merges : Merges (HasNumber moved k) k m) (tidy : IsReduced m state) where
     abbrev Old : State Bits → Type 0
-    Old = IsNumbered new before k
+    Old = HasNewNumber new before k
 
     listed : (s : State Bits) → Old s → dots_in s ≡ dots_in state
     listed s o =
@@ -64,18 +64,18 @@ module _ (before moved merged after : List (State Bits)) (numbers : List ℕ) (c
           λ h. (h.0, ap (λ is. slice_get is.vec.items n) (sym r.items) ∙ h.1, h.2),
         ))))
 
-    shifts : (t : TerminalString) (target : StateIndex) → (get terminal_ord.ghosts.cmp state.shifts t ≡ Some target) ↔ OfMember Old (λ s. LeadsTo terminal_ord.ghosts.cmp new s.shifts t target)
+    shifts : (t : TerminalString) (target : StateIndex) → (get terminal_ord.ghosts.cmp state.shifts t ≡ Some target) ↔ OfMember Old (λ s. LeadsToRenumbered terminal_ord.ghosts.cmp new s.shifts t target)
     shifts t target =
         then_both (λ e. ap (λ es. get terminal_ord.ghosts.cmp es t) (sym tidy.shifts) ∙ e, λ e. ap (λ es. get terminal_ord.ghosts.cmp es t) tidy.shifts ∙ e)
-        (then_both (merges.shifts t target) (members k (λ (s : State Bits). LeadsTo terminal_ord.ghosts.cmp new s.shifts t target) (λ (s : State Bits). get terminal_ord.ghosts.cmp s.shifts t ≡ Some target) (λ s u r. (
+        (then_both (merges.shifts t target) (members k (λ (s : State Bits). LeadsToRenumbered terminal_ord.ghosts.cmp new s.shifts t target) (λ (s : State Bits). get terminal_ord.ghosts.cmp s.shifts t ≡ Some target) (λ s u r. (
           goes terminal_ord.ghosts.cmp new s.shifts u.shifts r.shifts t target,
           was terminal_ord.ghosts.cmp new s.shifts u.shifts r.shifts t target,
         ))))
 
-    gotos : (name : NonterminalString) (target : StateIndex) → (get name_cmp state.gotos name ≡ Some target) ↔ OfMember Old (λ s. LeadsTo name_cmp new s.gotos name target)
+    gotos : (name : NonterminalString) (target : StateIndex) → (get name_cmp state.gotos name ≡ Some target) ↔ OfMember Old (λ s. LeadsToRenumbered name_cmp new s.gotos name target)
     gotos t target =
         then_both (λ e. ap (λ es. get name_cmp es t) (sym tidy.gotos) ∙ e, λ e. ap (λ es. get name_cmp es t) tidy.gotos ∙ e)
-        (then_both (merges.gotos t target) (members k (λ (s : State Bits). LeadsTo name_cmp new s.gotos t target) (λ (s : State Bits). get name_cmp s.gotos t ≡ Some target) (λ s u r. (
+        (then_both (merges.gotos t target) (members k (λ (s : State Bits). LeadsToRenumbered name_cmp new s.gotos t target) (λ (s : State Bits). get name_cmp s.gotos t ≡ Some target) (λ s u r. (
           goes name_cmp new s.gotos u.gotos r.gotos t target,
           was name_cmp new s.gotos u.gotos r.gotos t target,
         ))))

@@ -19,7 +19,7 @@ use Rattle.lalrpop_base.specs.Words.{Bits, has, no_bits, join, has-join, has-no_
 use Rattle.lalrpop_tables.proofs.Types.{Production}
 use Rattle.lalrpop_collections.proofs.theory.lists.Lists.{some_of_map}
 use Rattle.lalrpop_base.specs.Words.{production_order, HasReduction, HasReductionOn, AreTokensOf, HasTokensOf, AreJoinedReductions}
-use Rattle.lalrpop_states.specs.collapse.Merging.{tokens_at, AreListed}
+use Rattle.lalrpop_states.specs.collapse.Merging.{tokens_at, AreReductionsOfMap}
 use Rattle.lalrpop_states.proofs.theory.grammars.AscendingItems.{production_total, production_exact}
 use Rattle.lalrpop_collections.proofs.theory.lists.Members.{place}
 use Rattle.lalrpop_collections.proofs.theory.lists.Places.{contains_at}
@@ -134,7 +134,7 @@ module _ (given : List Reduction) (r : Reduction) where
   ]
 
 -- ---- the whole
-module _ (given list : List Reduction) (m : List Entry) (tokens : HasTokensOf given m) (listed : AreListed m list) where
+module _ (given list : List Reduction) (m : List Entry) (tokens : HasTokensOf given m) (listed : AreReductionsOfMap m list) where
   abbrev swapped : Entry → Reduction
   swapped e = (e.1, e.0)
 

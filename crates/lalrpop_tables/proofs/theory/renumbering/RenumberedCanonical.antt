@@ -11,7 +11,7 @@ use Rattle.lalrpop_construction.specs.Words.{is_with_token, tokens_of, AreCanoni
 use Rattle.lalrpop_grammar.specs.closures.Closures.{over_edge}
 use Rattle.lalrpop_grammar.specs.states.States.{Reduction}
 use Rattle.lalrpop_tables.proofs.Types.{NonterminalString, Production, State, Symbol, Token}
-use Rattle.lalrpop_construction.specs.states.Canonical.{tokens_at}
+use Rattle.lalrpop_construction.specs.states.Canonical.{item_has_token}
 
 -- tests of the tokens of dotted productions
 abbrev TokenTests : Type 0
@@ -117,7 +117,7 @@ module _ (g : Rules) (before after : List (State Bits)) (r : AreRenumbered g.ter
   there = contents g.terminals after
 
   abbrev at_option : Option (State Bits) → TokenTests
-  at_option o = tokens_at (holds_token g.terminals) o
+  at_option o = item_has_token (holds_token g.terminals) o
 
   same_tokens : (n : ℕ) → tokens_of g.terminals after (r.new n) ≡ tokens_of g.terminals before n
   same_tokens n = elim ((slice_get_cases before n).1) [

@@ -4,9 +4,9 @@ use Rattle.std.proofs.Common.{◌≡◌, ◌⊎◌, ◌<◌, ℕ, inl, inr, ⊎_
 use Rattle.std.specs.Prelude.{Contains, slice_get}
 use Rattle.std.proofs.lemmas.Bool.{cases_lt}
 use Rattle.std.proofs.lemmas.Option.{slice_get_within}
-use Rattle.lalrpop_base.specs.Words.{Bits, contents, AreFaithful, Rules, rules_of, IsRenumberedState, AreRenumbered, number_in, HaveNoConflict, Ascend, FitsTokens}
+use Rattle.lalrpop_base.specs.Words.{Bits, contents, AreFaithful, Rules, rules_of, IsRenumberedState, AreRenumbered, number_in, AreAllConflictFree, Ascend, FitsTokens}
 use Rattle.lalrpop_construction.specs.Words.{AreOrderedCanonical}
-use Rattle.lalrpop_states.specs.conflicts.StateConflicts.{HasNoConflict}
+use Rattle.lalrpop_states.specs.conflicts.StateConflicts.{IsConflictFree}
 use Rattle.lalrpop_states.specs.declared.lr1_core.state.Items.{Items}
 use Rattle.lalrpop_tables.proofs.Types.{Grammar, NonterminalString, Production, State, TerminalString}
 use Rattle.lr1_theory.proofs.theory.renumbering.Renumbering.{faithful-renumbered}
@@ -20,7 +20,7 @@ use Rattle.std.specs.Borrow.{Bor}
 use Rattle.lalrpop_tables.proofs.theory.renumbering.RenumberedCanonical.{Canonical-renumbered}
 
 -- a state has no conflict under another number if it had none
-no_conflict_after : (new : ℕ → ℕ) (terminals : List TerminalString) (before after : State Bits) → IsRenumberedState new before after → HasNoConflict terminals before → HasNoConflict terminals after
+no_conflict_after : (new : ℕ → ℕ) (terminals : List TerminalString) (before after : State Bits) → IsRenumberedState new before after → IsConflictFree terminals before → IsConflictFree terminals after
 no_conflict_after new terminals before after r h = record {
   shifts = λ k j bit t target q at place there.
       let d = entry_from new before.shifts.entries after.shifts.entries r.shifts k (t, target) at in
@@ -41,7 +41,7 @@ module _ (terminals : List TerminalString) (before after : List (State Bits)) (r
     | inr past ↦ absurd (let o = r.outside (r.old k) past in let b = r.renumbering.back k in let c = r.counted in let w = slice_get_within after k state at in omega arith)
   ]
 
-  pub Free-renumbered : HaveNoConflict terminals before → HaveNoConflict terminals after
+  pub Free-renumbered : AreAllConflictFree terminals before → AreAllConflictFree terminals after
   Free-renumbered free k state at = let x = state_before k state at in no_conflict_after r.new terminals x.0 state x.2 (free (r.old k) x.0 x.1)
 
   pub Items-renumbered : HaveFullItems terminals before → HaveFullItems terminals after

@@ -21,7 +21,7 @@ use Rattle.lalrpop_collections.proofs.theory.lists.Places.{contains_at}
 use Rattle.lalrpop_state_graph.proofs.theory.graphs.StateGraphs.{state_total}
 use Rattle.lalrpop_traces.specs.Words.{Backtrace, Meeting, StandsIn, Duty, come_to, take_up, come_to_each, take_up_each, items_at, AreSources}
 use Rattle.lalrpop_traces.specs.Words.{meeting_cmp, IsInsertedPair, names_in, meetings, unmet, item_steps, duty_steps, work}
-use Rattle.lalrpop_traces.specs.declared.trace.meeting.Met.{Met}
+use Rattle.lalrpop_traces.specs.declared.trace.walk_back.Met.{Met}
 use Rattle.lalrpop_traces.proofs.theory.traces.Counting.{count_le, count_less}
 
 not_true : (b : Bool) → not b ≡ true → b ≡ false

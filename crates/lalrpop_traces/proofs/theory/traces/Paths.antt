@@ -6,7 +6,7 @@ use mathlib.Core.List.{head-eq_of_cons-eq}
 use Rattle.lalrpop_collections.proofs.theory.lists.Lists.{contains-cons, contains-nil, contains_head}
 use Rattle.lalrpop_collections.proofs.theory.lists.Apart.{Apart}
 use Rattle.lalrpop_traces.proofs.theory.traces.PathLists.{apart_one, apart_reverse, apart_flat_map, same_behind, reverse_more}
-use Rattle.lalrpop_traces.specs.Words.{numbers_from, source, is_item, comes_again, over}
+use Rattle.lalrpop_traces.specs.Words.{edge_numbers_to_source, source, is_item, comes_again, over}
 use Rattle.lalrpop_traces.specs.declared.trace.trace_graph.TraceGraph.{TraceGraph}
 use Rattle.lalrpop_collections.proofs.theory.lists.Members.{of_flat, Contains-reverse, Contains-from_reverse}
 use Rattle.lalrpop_collections.proofs.theory.lists.Bounded.{in_flat_map}
@@ -42,17 +42,17 @@ module _ (g : TraceGraph) where
   -- the edges go on after an edge to the first item, and pass no node that was passed before
   abbrev pub GoesOn : List ℕ → ℕ → List ℕ → Type 0
   GoesOn taken k [] = is_item (source g k) ≡ true
-  GoesOn taken k (j ∷ rest) = (is_item (source g k) ≡ false) × (comes_again g k taken ≡ false) × Contains (numbers_from g k) j × GoesOn (k ∷ taken) j rest
+  GoesOn taken k (j ∷ rest) = (is_item (source g k) ≡ false) × (comes_again g k taken ≡ false) × Contains (edge_numbers_to_source g k) j × GoesOn (k ∷ taken) j rest
 
   -- each path that is listed goes on so
   pub over_sound : (n : ℕ) (taken : List ℕ) (k : ℕ) (p : List ℕ) → Contains (over g n taken k) p → (rest : List ℕ) × (p ≡ reverse (k ∷ taken) ++ rest) × GoesOn taken k rest
   over_sound zero taken k p c = let h = one_if (is_item (source g k)) (reverse (k ∷ taken)) p c in ([], h.1 ∙ sym (append-nil (reverse (k ∷ taken))), h.0)
-  over_sound (suc n) taken k p c = elim (one_or (is_item (source g k)) (comes_again g k taken) (reverse (k ∷ taken)) (flat_map (over g n (k ∷ taken)) (reverse (numbers_from g k))) p c) [
+  over_sound (suc n) taken k p c = elim (one_or (is_item (source g k)) (comes_again g k taken) (reverse (k ∷ taken)) (flat_map (over g n (k ∷ taken)) (reverse (edge_numbers_to_source g k))) p c) [
     | inl h ↦ ([], h.1 ∙ sym (append-nil (reverse (k ∷ taken))), h.0)
     | inr h ↦
-        let r = of_flat (over g n (k ∷ taken)) (reverse (numbers_from g k)) p h.2 in
+        let r = of_flat (over g n (k ∷ taken)) (reverse (edge_numbers_to_source g k)) p h.2 in
         let s = over_sound n (k ∷ taken) r.0 p r.2 in
-        (r.0 ∷ s.0, s.1 ∙ reverse_more r.0 (k ∷ taken) s.0, (h.0, h.1, Contains-from_reverse (numbers_from g k) r.0 r.1, s.2))
+        (r.0 ∷ s.0, s.1 ∙ reverse_more r.0 (k ∷ taken) s.0, (h.0, h.1, Contains-from_reverse (edge_numbers_to_source g k) r.0 r.1, s.2))
   ]
 
   -- each path that goes on so, and passes no more nonterminals than are counted, is listed
@@ -64,8 +64,8 @@ module _ (g : TraceGraph) where
       let more = over_has n (k ∷ taken) j rest (omega (arith, l)) h.3 in
       let f = over g n (k ∷ taken) in
       subst (Contains (over g (suc n) taken k)) (reverse_more j (k ∷ taken) rest)
-      (there_if (is_item (source g k)) (comes_again g k taken) (reverse (k ∷ taken)) (flat_map f (reverse (numbers_from g k))) (reverse (j ∷ (k ∷ taken)) ++ rest) h.0 h.1
-      (in_flat_map f (reverse (numbers_from g k)) j _ (Contains-reverse (numbers_from g k) j h.2) more))
+      (there_if (is_item (source g k)) (comes_again g k taken) (reverse (k ∷ taken)) (flat_map f (reverse (edge_numbers_to_source g k))) (reverse (j ∷ (k ∷ taken)) ++ rest) h.0 h.1
+      (in_flat_map f (reverse (edge_numbers_to_source g k)) j _ (Contains-reverse (edge_numbers_to_source g k) j h.2) more))
 
   -- paths over two edges differ
   pub over_parts : (n m : ℕ) (taken : List ℕ) (x y : ℕ) (p : List ℕ) → Contains (over g n taken x) p → Contains (over g m taken y) p → x ≡ y
@@ -76,8 +76,8 @@ module _ (g : TraceGraph) where
       head-eq_of_cons-eq (same_behind (reverse taken) (x ∷ r.0) (y ∷ s.0) e)
 
   -- no path is listed twice
-  pub over_apart : ((k : ℕ) → Apart (numbers_from g k)) → (n : ℕ) (taken : List ℕ) (k : ℕ) → Apart (over g n taken k)
+  pub over_apart : ((k : ℕ) → Apart (edge_numbers_to_source g k)) → (n : ℕ) (taken : List ℕ) (k : ℕ) → Apart (over g n taken k)
   over_apart h zero taken k = apart_if (is_item (source g k)) (reverse (k ∷ taken))
   over_apart h (suc n) taken k =
       apart_or (is_item (source g k)) (comes_again g k taken) (reverse (k ∷ taken)) _
-      (apart_flat_map (over g n (k ∷ taken)) (reverse (numbers_from g k)) (apart_reverse (numbers_from g k) (h k)) (λ j. over_apart h n (k ∷ taken) j) (λ x y p c d. over_parts n n (k ∷ taken) x y p c d))
+      (apart_flat_map (over g n (k ∷ taken)) (reverse (edge_numbers_to_source g k)) (apart_reverse (edge_numbers_to_source g k) (h k)) (λ j. over_apart h n (k ∷ taken) j) (λ x y p c d. over_parts n n (k ∷ taken) x y p c d))

@@ -16,7 +16,7 @@ use Rattle.lalrpop_traces.proofs.theory.traces.TraceGraphs.{place_sound, place_c
 use Rattle.lalrpop_traces.specs.contracts.trace.node.TraceGraphNodeEq.TheImpl as node_equality
 use Rattle.lalrpop_traces.specs.contracts.trace.node.TraceGraphNodeExact.TheImpl as node_exactly
 use Rattle.lalrpop_traces.specs.contracts.trace.node.TraceGraphNodePartialEq.TheImpl as node_eq
-use Rattle.lalrpop_traces.specs.Words.{IsGraph, places_from, node_count, numbers_to, numbers_to_source, numbers_from, edge_of, source_of, target_of, source}
+use Rattle.lalrpop_traces.specs.Words.{IsGraph, places_from, node_count, numbers_to, numbers_to_source, edge_numbers_to_source, edge_of, source_of, target_node, source}
 use Rattle.lalrpop_traces.specs.Words.{target, are_one, comes_again, over, paths, passed, GoesBack, IsPath}
 use Rattle.lalrpop_traces.specs.declared.trace.node.TraceGraphNode.{TraceGraphNode}
 use Rattle.lalrpop_traces.specs.declared.trace.trace_graph.TraceGraph.{TraceGraph}
@@ -34,7 +34,7 @@ one exact (Some a) None h = absurd (true≢false (sym h))
 one exact (Some a) (Some b) h = ap Some (exact a b h)
 
 -- an edge with a target has a source
-has_source : (o : Option TraceGraphEdge) (a : TraceGraphNode) → target_of o ≡ Some a → (e : TraceGraphEdge) × (o ≡ Some e)
+has_source : (o : Option TraceGraphEdge) (a : TraceGraphNode) → target_node o ≡ Some a → (e : TraceGraphEdge) × (o ≡ Some e)
 has_source None a e = absurd (some≢none (sym e))
 has_source (Some e) a h = (e, refl)
 
@@ -64,12 +64,12 @@ leads_to g a k c =
     let at = contains_place (numbers_to g a) k c in
     let h = place_sound 0 a g.edges at.0 k at.1 in
     let same : h.0 ≡ k = omega (arith, h.2) in
-    ap (target g) (sym same) ∙ ap target_of h.3 ∙ ap Some h.4
+    ap (target g) (sym same) ∙ ap target_node h.3 ∙ ap Some h.4
 
 to_leads : (g : TraceGraph) (a : TraceGraphNode) (k : ℕ) → target g k ≡ Some a → Contains (numbers_to g a) k
 to_leads g a k t =
     let s = has_source (edge_of g k) a t in
-    let to : s.0.to ≡ a = same_some (ap target_of (sym s.1) ∙ t) in
+    let to : s.0.to ≡ a = same_some (ap target_node (sym s.1) ∙ t) in
     let h = place_complete 0 a g.edges k s.0 s.1 to in
     place_contains (numbers_to g a) h.0 k (h.1 ∙ ap (λ (m : ℕ). Some m) (omega arith))
 
@@ -95,17 +95,17 @@ listed_graph g ok = record {
 
 module _ (g : TraceGraph) (nodes : List TraceGraphNode) (listed : IsListed g nodes) where
   -- an edge is among those to the source of another one if it leads to that
-  leads_from : (k j : ℕ) → Contains (numbers_from g k) j → target g j ≡ source g k
+  leads_from : (k j : ℕ) → Contains (edge_numbers_to_source g k) j → target g j ≡ source g k
   leads_from k j c =
       let s = numbers_there g (edge_of g k) j c in
       let c' = subst (λ (o : Option TraceGraphEdge). Contains (numbers_to_source g o) j) s.1 c in
       (listed.leads s.0.from j).0 c' ∙ ap source_of (sym s.1)
 
-  from_leads : (k j : ℕ) (e : TraceGraphEdge) → edge_of g k ≡ Some e → target g j ≡ source g k → Contains (numbers_from g k) j
+  from_leads : (k j : ℕ) (e : TraceGraphEdge) → edge_of g k ≡ Some e → target g j ≡ source g k → Contains (edge_numbers_to_source g k) j
   from_leads k j e at h =
       subst (λ (o : Option TraceGraphEdge). Contains (numbers_to_source g o) j) (sym at) ((listed.leads e.from j).1 (h ∙ ap source_of at))
 
-  apart_numbers : (k : ℕ) → Apart (numbers_from g k)
+  apart_numbers : (k : ℕ) → Apart (edge_numbers_to_source g k)
   apart_numbers k = at (edge_of g k)
     where
       at : (o : Option TraceGraphEdge) → Apart (numbers_to_source g o)

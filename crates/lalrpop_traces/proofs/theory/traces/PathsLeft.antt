@@ -5,7 +5,7 @@ use Rattle.std.specs.List.{flat_map}
 use Rattle.std.proofs.lemmas.List.{reverse-append, reverse-reverse, map-append}
 use Rattle.std.proofs.lemmas.Option.{slice_get_within, slice_get-get_or}
 use Rattle.lalrpop_collections.proofs.theory.lists.Lists.{same_some, some≢none, contains-nil, contains-cons, place_contains, contains_map}
-use Rattle.lalrpop_traces.specs.Words.{path_of, source, is_item, are_one, comes_again, over, left_over, node_count, numbers_to, numbers_from, numbers_at, frames}
+use Rattle.lalrpop_traces.specs.Words.{path_of, source, is_item, are_one, comes_again, over, left_over, node_count, numbers_to, edge_numbers_to_source, numbers_at, frames}
 use Rattle.lalrpop_traces.specs.Words.{remaining, and_behind, paths_over}
 use Rattle.lalrpop_traces.specs.declared.trace.enumerator.EnumeratorState.{EnumeratorState}
 use Rattle.lalrpop_traces.specs.declared.trace.enumerator.PathEnumerator.{PathEnumerator}
@@ -31,7 +31,7 @@ module _ (g : TraceGraph) where
   -- ---- an edge
   pub over_item : (m : ℕ) (taken : List ℕ) (k : ℕ) → is_item (source g k) ≡ true → over g m taken k ≡ reverse (k ∷ taken) ∷ []
   over_item zero taken k e = ap (λ b. cond b (reverse (k ∷ taken) ∷ []) []) e
-  over_item (suc m) taken k e = ap (λ b. cond b (reverse (k ∷ taken) ∷ []) (cond (comes_again g k taken) [] (flat_map (over g m (k ∷ taken)) (reverse (numbers_from g k))))) e
+  over_item (suc m) taken k e = ap (λ b. cond b (reverse (k ∷ taken) ∷ []) (cond (comes_again g k taken) [] (flat_map (over g m (k ∷ taken)) (reverse (edge_numbers_to_source g k))))) e
   -- ---- whether the source was passed
 
 module _ (g : TraceGraph) (start : TraceGraphNode) where

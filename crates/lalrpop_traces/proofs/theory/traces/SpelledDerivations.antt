@@ -6,9 +6,9 @@ use mathlib.Core.Bool.{true≢false}
 use Rattle.lalrpop_traces.proofs.Types.{Production, Symbol}
 use Rattle.lalrpop_grammar.specs.declared.repr.Symbol.TheVariants.{Nonterminal as NonterminalOf}
 use Rattle.lalrpop_collections.proofs.theory.lists.Lists.{same_some, some≢none}
-use Rattle.lalrpop_traces.specs.Words.{edge_of, prefix_of, cursor_of, suffix_of, name_of, cursor_list, place_of, prefixes, suffixes, place, spelled, reduced}
+use Rattle.lalrpop_traces.specs.Words.{edge_of, edge_prefix, edge_cursor, edge_suffix, nonterminal_of_node, cursor_list, place_of, prefixes, suffixes, place, spelled, example_reductions}
 use Rattle.lalrpop_traces.specs.Words.{reduced_at, IsExampleOf, between, IsRightSide, ReduceAround, ReduceAll, SpellsDerivation, CarryRightSides, source_of}
-use Rattle.lalrpop_traces.specs.Words.{target_of, source, is_item, GoesBack, IsPath}
+use Rattle.lalrpop_traces.specs.Words.{target_node, source, is_item, GoesBack, IsPath}
 use Rattle.lalrpop_traces.specs.traces.Examples.{read}
 use Rattle.lalrpop_traces.specs.declared.trace.example.Example.{Example}
 use Rattle.lalrpop_traces.specs.declared.trace.example.ExampleSymbol.{ExampleSymbol}
@@ -109,23 +109,23 @@ module _ (a p s d : List Symbol) (middle : List ExampleSymbol) where
       ∙ ap (λ xs. p ++ xs) (read_append middle (map SymbolOf s) ∙ ap (λ xs. read middle ++ xs) (read_symbols s))
 
 -- an edge with a target is there
-led : (o : Option TraceGraphEdge) (a : TraceGraphNode) → target_of o ≡ Some a → (e : TraceGraphEdge) × (o ≡ Some e) × (e.to ≡ a)
+led : (o : Option TraceGraphEdge) (a : TraceGraphNode) → target_node o ≡ Some a → (e : TraceGraphEdge) × (o ≡ Some e) × (e.to ≡ a)
 led None a h = absurd (some≢none (sym h))
 led (Some e) a h = (e, refl, same_some h)
 
 -- a node that is not an item is a nonterminal
-nonterminal : (x : TraceGraphNode) → is_item (Some x) ≡ false → x ≡ Nonterminal (name_of x)
+nonterminal : (x : TraceGraphNode) → is_item (Some x) ≡ false → x ≡ Nonterminal (nonterminal_of_node x)
 nonterminal (Nonterminal name) h = refl
 nonterminal (Item item) h = absurd (true≢false h)
 
 module _ (g : TraceGraph) (productions : List Production) (carry : CarryRightSides productions g.edges) (all : List ExampleSymbol) where
-  right_side : (k : ℕ) (e : TraceGraphEdge) → edge_of g k ≡ Some e → IsRightSide productions (name_of e.from) (prefix_of (edge_of g k) ++ (cursor_list (cursor_of (edge_of g k)) ++ suffix_of (edge_of g k)))
+  right_side : (k : ℕ) (e : TraceGraphEdge) → edge_of g k ≡ Some e → IsRightSide productions (nonterminal_of_node e.from) (edge_prefix (edge_of g k) ++ (cursor_list (edge_cursor (edge_of g k)) ++ edge_suffix (edge_of g k)))
   right_side k e at =
-      let P : Option TraceGraphEdge → Type 0 = λ o. IsRightSide productions (name_of e.from) (prefix_of o ++ (cursor_list (cursor_of o) ++ suffix_of o)) in
+      let P : Option TraceGraphEdge → Type 0 = λ o. IsRightSide productions (nonterminal_of_node e.from) (edge_prefix o ++ (cursor_list (edge_cursor o) ++ edge_suffix o)) in
       subst P (sym at) (carry k e at).right_side
 
   -- if an edge comes from a nonterminal, the next one leads to it
-  next_back : (here : TraceGraphNode) (k j : ℕ) (rest : List ℕ) (e : TraceGraphEdge) → edge_of g k ≡ Some e → GoesBack g (Some here) (k ∷ (j ∷ rest)) → GoesBack g (Some (Nonterminal (name_of e.from))) (j ∷ rest)
+  next_back : (here : TraceGraphNode) (k j : ℕ) (rest : List ℕ) (e : TraceGraphEdge) → edge_of g k ≡ Some e → GoesBack g (Some here) (k ∷ (j ∷ rest)) → GoesBack g (Some (Nonterminal (nonterminal_of_node e.from))) (j ∷ rest)
   next_back here k j rest e at b =
       let from : source g k ≡ Some e.from = ap source_of at in
       let named = nonterminal e.from (subst (λ (o : Option TraceGraphNode). is_item o ≡ false) from b.1) in
@@ -133,65 +133,65 @@ module _ (g : TraceGraph) (productions : List Production) (carry : CarryRightSid
 
   -- the reduction of an edge, with the outer edges after it
   abbrev reduction : List ℕ → TraceGraphEdge → Reduction
-  reduction rest e = record { start = length (prefixes g rest); end = length all - length (suffixes g rest); nonterminal = name_of e.from }
+  reduction rest e = record { start = length (prefixes g rest); end = length all - length (suffixes g rest); nonterminal = nonterminal_of_node e.from }
 
   -- one reduction around another
-  around_one : (inner : Reduction) (j : ℕ) (rest : List ℕ) (middle : List ExampleSymbol) → target_of (edge_of g j) ≡ Some (Nonterminal inner.nonterminal) → inner.start ≡ length (prefixes g (j ∷ rest)) → inner.end ≡ length all - length (suffixes g (j ∷ rest))
-      → all ≡ map SymbolOf (prefixes g (j ∷ rest)) ++ (middle ++ map SymbolOf (suffixes g (j ∷ rest))) → ((e : TraceGraphEdge) → edge_of g j ≡ Some e → ReduceAround productions all (reduction rest e) (reduced g (length all) rest))
-      → ReduceAround productions all inner (reduced g (length all) (j ∷ rest))
+  around_one : (inner : Reduction) (j : ℕ) (rest : List ℕ) (middle : List ExampleSymbol) → target_node (edge_of g j) ≡ Some (Nonterminal inner.nonterminal) → inner.start ≡ length (prefixes g (j ∷ rest)) → inner.end ≡ length all - length (suffixes g (j ∷ rest))
+      → all ≡ map SymbolOf (prefixes g (j ∷ rest)) ++ (middle ++ map SymbolOf (suffixes g (j ∷ rest))) → ((e : TraceGraphEdge) → edge_of g j ≡ Some e → ReduceAround productions all (reduction rest e) (example_reductions g (length all) rest))
+      → ReduceAround productions all inner (example_reductions g (length all) (j ∷ rest))
   around_one inner j rest middle to s t e more =
       let l = led (edge_of g j) (Nonterminal inner.nonterminal) to in
       let a = prefixes g rest in
       let d = suffixes g rest in
-      let p = prefix_of (edge_of g j) in
-      let q = suffix_of (edge_of g j) in
+      let p = edge_prefix (edge_of g j) in
+      let q = edge_suffix (edge_of g j) in
       let r : Reduction = reduction rest l.0 in
-      let cursor : cursor_of (edge_of g j) ≡ Some (NonterminalOf inner.nonterminal) = ap cursor_of l.1 ∙ (carry j l.0 l.1).cursor inner.nonterminal l.2 in
+      let cursor : edge_cursor (edge_of g j) ≡ Some (NonterminalOf inner.nonterminal) = ap edge_cursor l.1 ∙ (carry j l.0 l.1).cursor inner.nonterminal l.2 in
       let front : between all r.start inner.start ≡ p = before_part a p q d middle all r.start inner.start e refl s in
       let back : between all inner.end r.end ≡ q = behind_part a p q d middle all inner.end r.end e t refl in
       let side : IsRightSide productions r.nonterminal (p ++ (NonterminalOf inner.nonterminal ∷ q)) = subst (λ (o : Option Symbol). IsRightSide productions r.nonterminal (p ++ (cursor_list o ++ q))) cursor (right_side j l.0 l.1) in
       let P : List Symbol → Type 0 = λ x. IsRightSide productions r.nonterminal (x ++ (NonterminalOf inner.nonterminal ∷ between all inner.end r.end)) in
       let Q : List Symbol → Type 0 = λ x. IsRightSide productions r.nonterminal (p ++ (NonterminalOf inner.nonterminal ∷ x)) in
-      let R : Option TraceGraphEdge → Type 0 = λ o. ReduceAround productions all inner (reduced_at o (length a) (length all - length d) ++ reduced g (length all) rest) in
+      let R : Option TraceGraphEdge → Type 0 = λ o. ReduceAround productions all inner (reduced_at o (length a) (length all - length d) ++ example_reductions g (length all) rest) in
       let below : r.start ≤ inner.start = omega (arith, s, length-append a p) in
       let above : inner.end ≤ r.end = omega (arith, t, length-append q d) in
       subst R (sym l.1) (below, above, subst P (sym front) (subst Q (sym back) side), more l.0 l.1)
 
   -- all reductions around one
   around : (inner : Reduction) (j : ℕ) (rest : List ℕ) (middle : List ExampleSymbol) → GoesBack g (Some (Nonterminal inner.nonterminal)) (j ∷ rest) → inner.start ≡ length (prefixes g (j ∷ rest)) → inner.end ≡ length all - length (suffixes g (j ∷ rest))
-      → all ≡ map SymbolOf (prefixes g (j ∷ rest)) ++ (middle ++ map SymbolOf (suffixes g (j ∷ rest))) → ReduceAround productions all inner (reduced g (length all) (j ∷ rest))
+      → all ≡ map SymbolOf (prefixes g (j ∷ rest)) ++ (middle ++ map SymbolOf (suffixes g (j ∷ rest))) → ReduceAround productions all inner (example_reductions g (length all) (j ∷ rest))
   around inner j [] middle b s t e = around_one inner j [] middle b.0 s t e (λ f at. tt)
   around inner j (i ∷ rest) middle b s t e =
       around_one inner j (i ∷ rest) middle b.0 s t e (λ f at.
-      around (reduction (i ∷ rest) f) i rest (map SymbolOf (prefix_of (edge_of g j)) ++ (middle ++ map SymbolOf (suffix_of (edge_of g j)))) (next_back (Nonterminal inner.nonterminal) j i rest f at b) refl refl
-      (e ∙ outer_form (prefixes g (i ∷ rest)) (prefix_of (edge_of g j)) (suffix_of (edge_of g j)) (suffixes g (i ∷ rest)) middle))
+      around (reduction (i ∷ rest) f) i rest (map SymbolOf (edge_prefix (edge_of g j)) ++ (middle ++ map SymbolOf (edge_suffix (edge_of g j)))) (next_back (Nonterminal inner.nonterminal) j i rest f at b) refl refl
+      (e ∙ outer_form (prefixes g (i ∷ rest)) (edge_prefix (edge_of g j)) (edge_suffix (edge_of g j)) (suffixes g (i ∷ rest)) middle))
 
   -- the innermost reduction
-  innermost_one : (k : ℕ) (rest : List ℕ) (e : TraceGraphEdge) → edge_of g k ≡ Some e → all ≡ spelled g (k ∷ rest) → ReduceAround productions all (reduction rest e) (reduced g (length all) rest) → ReduceAll productions all (reduced g (length all) (k ∷ rest))
+  innermost_one : (k : ℕ) (rest : List ℕ) (e : TraceGraphEdge) → edge_of g k ≡ Some e → all ≡ spelled g (k ∷ rest) → ReduceAround productions all (reduction rest e) (example_reductions g (length all) rest) → ReduceAll productions all (example_reductions g (length all) (k ∷ rest))
   innermost_one k rest e at is more =
       let a = prefixes g rest in
       let d = suffixes g rest in
-      let p = prefix_of (edge_of g k) in
-      let q = suffix_of (edge_of g k) in
+      let p = edge_prefix (edge_of g k) in
+      let q = edge_suffix (edge_of g k) in
       let r : Reduction = reduction rest e in
       let middle = place g (k ∷ rest) in
-      let part : between all r.start r.end ≡ p ++ (cursor_list (cursor_of (edge_of g k)) ++ q) = whole_part a p q d middle all r.start r.end is refl refl ∙ ap (λ xs. p ++ (xs ++ q)) (read_place (cursor_of (edge_of g k)) p) in
-      let R : Option TraceGraphEdge → Type 0 = λ o. ReduceAll productions all (reduced_at o (length a) (length all - length d) ++ reduced g (length all) rest) in
+      let part : between all r.start r.end ≡ p ++ (cursor_list (edge_cursor (edge_of g k)) ++ q) = whole_part a p q d middle all r.start r.end is refl refl ∙ ap (λ xs. p ++ (xs ++ q)) (read_place (edge_cursor (edge_of g k)) p) in
+      let R : Option TraceGraphEdge → Type 0 = λ o. ReduceAll productions all (reduced_at o (length a) (length all - length d) ++ example_reductions g (length all) rest) in
       let within : r.start ≤ r.end = omega (arith, whole_length a p q d middle all is) in
       subst R (sym at) (within, subst (λ (xs : List Symbol). IsRightSide productions r.nonterminal xs) (sym part) (right_side k e at), more)
 
-  all_reduce : (start : TraceGraphNode) (path : List ℕ) → GoesBack g (Some start) path → all ≡ spelled g path → ReduceAll productions all (reduced g (length all) path)
+  all_reduce : (start : TraceGraphNode) (path : List ℕ) → GoesBack g (Some start) path → all ≡ spelled g path → ReduceAll productions all (example_reductions g (length all) path)
   all_reduce start [] b is = absurd b
   all_reduce start (k ∷ []) b is = let l = led (edge_of g k) start b.0 in innermost_one k [] l.0 l.1 is tt
   all_reduce start (k ∷ (j ∷ rest)) b is =
       let l = led (edge_of g k) start b.0 in
       innermost_one k (j ∷ rest) l.0 l.1 is (
-      around (reduction (j ∷ rest) l.0) j rest (map SymbolOf (prefix_of (edge_of g k)) ++ (place g (k ∷ (j ∷ rest)) ++ map SymbolOf (suffix_of (edge_of g k)))) (next_back start k j rest l.0 l.1 b) refl refl
-      (is ∙ outer_form (prefixes g (j ∷ rest)) (prefix_of (edge_of g k)) (suffix_of (edge_of g k)) (suffixes g (j ∷ rest)) (place g (k ∷ (j ∷ rest))))
+      around (reduction (j ∷ rest) l.0) j rest (map SymbolOf (edge_prefix (edge_of g k)) ++ (place g (k ∷ (j ∷ rest)) ++ map SymbolOf (edge_suffix (edge_of g k)))) (next_back start k j rest l.0 l.1 b) refl refl
+      (is ∙ outer_form (prefixes g (j ∷ rest)) (edge_prefix (edge_of g k)) (edge_suffix (edge_of g k)) (suffixes g (j ∷ rest)) (place g (k ∷ (j ∷ rest))))
       )
 
 -- the example of a path spells a derivation
 pub derivation : (g : TraceGraph) (productions : List Production) (start : TraceGraphNode) (path : List ℕ) (example : Example) → CarryRightSides productions g.edges → IsPath g start path → IsExampleOf g path example → SpellsDerivation productions example
 derivation g productions start path example carry is_path is =
     let made = all_reduce g productions carry (spelled g path) start path is_path.goes refl in
-    subst (λ (rs : List Reduction). ReduceAll productions example.symbols.items rs) (sym is.reductions) (subst (λ (xs : List ExampleSymbol). ReduceAll productions xs (reduced g (length (spelled g path)) path)) (sym is.symbols) made)
+    subst (λ (rs : List Reduction). ReduceAll productions example.symbols.items rs) (sym is.reductions) (subst (λ (xs : List ExampleSymbol). ReduceAll productions xs (example_reductions g (length (spelled g path)) path)) (sym is.symbols) made)

@@ -17,7 +17,7 @@ use Rattle.lalrpop_traces.specs.Words.{Graph, PlainEdge, plain, plain_edges, Add
 use Rattle.lalrpop_traces.specs.Words.{onward_edges, Duty, come_to, take_up, come_to_each, take_up_each, items_at, AreSources, Walks, ends, known, meets, passes}
 use Rattle.lalrpop_traces.specs.Words.{IsInOrder, Backtrace, Meeting, GoesOn, own_edge, meeting_cmp, IsInsertedPair, HasMet, AddsInOrder, AreMet, WalksOn}
 use Rattle.lalrpop_traces.specs.traces.TraceOrder.{stops, goes_on}
-use Rattle.lalrpop_traces.specs.declared.trace.meeting.Met.{Met}
+use Rattle.lalrpop_traces.specs.declared.trace.walk_back.Met.{Met}
 use Rattle.lalrpop_traces.specs.declared.trace.node.TraceGraphNode.{TraceGraphNode}
 use Rattle.lalrpop_traces.specs.declared.trace.trace_graph.TraceGraphEdge.{TraceGraphEdge}
 use Rattle.lalrpop_traces.proofs.theory.traces.TraceGraphs.{plain_push, decided_node}

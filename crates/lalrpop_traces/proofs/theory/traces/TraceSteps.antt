@@ -11,8 +11,8 @@ use Rattle.lalrpop_grammar.specs.declared.repr.Symbol.TheVariants.{Nonterminal}
 use Rattle.lalrpop_collections.proofs.theory.lists.Members.{contains_head, contains_tail}
 use Rattle.lalrpop_traces.specs.Words.{Backtrace, Meeting, Takes, GoesOn, Duty, come_to, take_up, come_to_each, take_up_each, items_at, stop_edge, onward_edges, AreSources}
 use Rattle.lalrpop_traces.specs.Words.{IsInsertedPair, AddsInOrder, duties_of, duties_left, names_in, AreNamed, work, WalksOn, IsStep}
-use Rattle.lalrpop_traces.specs.declared.trace.meeting.Met.{Met}
-use Rattle.lalrpop_traces.specs.declared.trace.meeting.Task.{Task}
+use Rattle.lalrpop_traces.specs.declared.trace.walk_back.Met.{Met}
+use Rattle.lalrpop_traces.specs.declared.trace.walk_back.Task.{Task}
 use Rattle.lalrpop_traces.proofs.theory.traces.Meetings.{named_item, come_work, met_work, item_work, sources_work}
 use Rattle.lalrpop_traces.proofs.theory.traces.TraceOrder.{walks_none, walks_then, walks_known, walks_met, walks_past, walks_stop, walks_on}
 use Rattle.lalrpop_collections.proofs.theory.lists.Lists.{contains_of_map}

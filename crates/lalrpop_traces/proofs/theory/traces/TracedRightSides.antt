@@ -9,8 +9,8 @@ use Rattle.lalrpop_traces.proofs.Types.{NonterminalString, Production, Symbol, T
 use Rattle.lalrpop_grammar.specs.declared.repr.Symbol.TheVariants.{Nonterminal as NonterminalOf, Terminal}
 use Rattle.lalrpop_collections.proofs.theory.lists.Lists.{contains_map, place_contains}
 use Rattle.lalrpop_states.proofs.theory.closures.Closing.{drop_split}
-use Rattle.lalrpop_traces.specs.Words.{name_of, cursor_list, IsRightSide, CarryRightSides, Graph, PlainEdge, plain, AreKnownEdges, Backtrace, IsTraced, first}
-use Rattle.lalrpop_traces.specs.Words.{given, Gives, onward, itself, IsTraceOf, dot_edge, dotted, HasOwnProductions, HasOwnTerminals}
+use Rattle.lalrpop_traces.specs.Words.{nonterminal_of_node, cursor_list, IsRightSide, CarryRightSides, Graph, PlainEdge, plain, AreKnownEdges, Backtrace, IsTraced, first}
+use Rattle.lalrpop_traces.specs.Words.{given, GivesEdge, onward, itself, IsTraceOf, dot_edge, dotted, HasOwnProductions, HasOwnTerminals}
 use Rattle.lalrpop_traces.specs.traces.Traces.{stops}
 use Rattle.lalrpop_traces.specs.declared.trace.node.TraceGraphNode.{TraceGraphNode}
 use Rattle.lalrpop_traces.specs.declared.trace.node.TraceGraphNode.TheVariants.{Nonterminal as NameNode, Item as ItemNode}
@@ -34,17 +34,17 @@ around xs i =
 
 -- the value of an edge carries a right side of its source's nonterminal
 record Carries (productions : List Production) (e : PlainEdge) : Type 0 where
-  right_side : IsRightSide productions (name_of e.from) (e.prefix ++ (cursor_list e.cursor ++ e.suffix))
+  right_side : IsRightSide productions (nonterminal_of_node e.from) (e.prefix ++ (cursor_list e.cursor ++ e.suffix))
   cursor : (name : NonterminalString) → e.to ≡ NameNode name → e.cursor ≡ Some (NonterminalOf name)
 
-carried : (productions : List Production) (from to : TraceGraphNode) (p : Production) (i : ℕ) → Contains productions p → name_of from ≡ p.nonterminal → ((name : NonterminalString) → to ≡ NameNode name → slice_get p.symbols i ≡ Some (NonterminalOf name)) → Carries productions (dot_edge from to p i)
+carried : (productions : List Production) (from to : TraceGraphNode) (p : Production) (i : ℕ) → Contains productions p → nonterminal_of_node from ≡ p.nonterminal → ((name : NonterminalString) → to ≡ NameNode name → slice_get p.symbols i ≡ Some (NonterminalOf name)) → Carries productions (dot_edge from to p i)
 carried productions from to p i own same cursor = record { right_side = (p, own, sym same, sym (around p.symbols i)); cursor = cursor }
 
 item_is_none : (productions : List Production) (p : Production) (i : ℕ) (name : NonterminalString) → ItemNode (dotted p i) ≡ NameNode name → slice_get p.symbols i ≡ Some (NonterminalOf name)
 item_is_none productions p i name e = cc
 
 name_is_cursor : (name other : NonterminalString) (o : Option Symbol) → o ≡ Some (NonterminalOf name) → NameNode name ≡ NameNode other → o ≡ Some (NonterminalOf other)
-name_is_cursor name other o at e = at ∙ ap (λ n. Some (NonterminalOf (name_of n))) e
+name_is_cursor name other o at e = at ∙ ap (λ n. Some (NonterminalOf (nonterminal_of_node n))) e
 
 module _ (b : Backtrace) (own : HasOwnProductions b) where
   traced_carries : (e : PlainEdge) → IsTraced b e → Carries b.productions e
@@ -52,7 +52,7 @@ module _ (b : Backtrace) (own : HasOwnProductions b) where
       subst (Carries b.productions) (sym is) (carried b.productions (NameNode b.item.production.nonterminal) (ItemNode (dotted b.item.production b.item.index)) b.item.production b.item.index own.item refl (item_is_none b.productions b.item.production b.item.index))
   traced_carries e (given m item met takes gives) = given_carries gives
     where
-      given_carries : Gives b m.1 item e → Carries b.productions e
+      given_carries : GivesEdge b m.1 item e → Carries b.productions e
       given_carries (onward g is) =
           subst (Carries b.productions) (sym is) (carried b.productions (NameNode item.production.nonterminal) (NameNode m.1) item.production item.index (own.items m.0 item takes.0) refl (λ name same. name_is_cursor m.1 name (slice_get item.production.symbols item.index) takes.1 same))
       given_carries (itself g r is) =

@@ -7,13 +7,13 @@ use Rattle.lalrpop_base.specs.Words.{AllDiffer, Bits, Dotted}
 use Rattle.lalrpop_traces.proofs.Types.{NonterminalString, Production, State, StateIndex}
 use Rattle.lalrpop_grammar.specs.declared.repr.Symbol.TheVariants.{Nonterminal}
 use Rattle.lalrpop_collections.proofs.theory.lists.Members.{Contains-none, contains_head, contains_tail, contains-cons, of_flat}
-use Rattle.lalrpop_traces.specs.Words.{Graph, PlainEdge, plain, plain_edges, IsEnd, AddsInTurn, all_added, left_out, put_behind, ends_of, stop_edge, onward_edges, Duty, come_to}
+use Rattle.lalrpop_traces.specs.Words.{Graph, PlainEdge, plain, plain_edges, IsEndpoint, AddsInTurn, all_added, left_out, put_behind, ends_of, stop_edge, onward_edges, Duty, come_to}
 use Rattle.lalrpop_traces.specs.Words.{take_up, come_to_each, take_up_each, items_at, AreSources, Walks, ends, known, meets, passes, IsInOrder, Backtrace, Meeting}
-use Rattle.lalrpop_traces.specs.Words.{own_edge, StandsIn, Takes, GoesOn, IsSource, IsMet, begins, Gives, onward, itself, IsTraced, first, given, IsTraceOf}
+use Rattle.lalrpop_traces.specs.Words.{own_edge, StandsIn, Takes, GoesOn, IsSource, IsMet, begins, GivesEdge, onward, itself, IsTraced, first, given, IsTraceOf}
 use Rattle.lalrpop_traces.specs.traces.Traces.{goes_on as met_on, stops as gives_stop}
 use Rattle.lalrpop_traces.specs.traces.TraceOrder.{stops, goes_on}
-use Rattle.lalrpop_traces.specs.declared.trace.ground.Traced.{Traced}
-use Rattle.lalrpop_traces.specs.declared.trace.ground.Traced.TheVariants.{Shift, Reduce}
+use Rattle.lalrpop_traces.specs.declared.trace.context.Traced.{Traced}
+use Rattle.lalrpop_traces.specs.declared.trace.context.Traced.TheVariants.{Shift, Reduce}
 use Rattle.lalrpop_traces.specs.declared.trace.node.TraceGraphNode.{TraceGraphNode}
 use Rattle.lalrpop_collections.proofs.theory.lists.Places.{differ_push}
 use Rattle.lalrpop_traces.proofs.theory.traces.TraceGraphs.{plain_there}
@@ -68,10 +68,10 @@ end_of e n c = elim (contains-cons e.from (e.to ∷ []) n c) [
   | inr k ↦ elim (contains-cons e.to [] n k) [ inl t ↦ inr t | inr none ↦ absurd (Contains-none n none) ]
 ]
 
-in_ends : (es : List PlainEdge) (n : TraceGraphNode) → IsEnd es n → Contains (ends_of es) n
+in_ends : (es : List PlainEdge) (n : TraceGraphNode) → IsEndpoint es n → Contains (ends_of es) n
 in_ends es n end = in_flat_map both_ends es end.0 n end.1 (end_there end.0 n end.2)
 
-from_ends : (es : List PlainEdge) (n : TraceGraphNode) → Contains (ends_of es) n → IsEnd es n
+from_ends : (es : List PlainEdge) (n : TraceGraphNode) → Contains (ends_of es) n → IsEndpoint es n
 from_ends es n c = let from = of_flat both_ends es n c in (from.0, from.1, end_of from.0 n from.2)
 
 -- ---- items of a state
@@ -84,14 +84,14 @@ stands_there states state item stands = subst (λ (o : Option (State Bits)). Con
 
 module _ (b : Backtrace) where
   -- ---- the edges of an item from which the trace goes on
-  onward_given : (traced : Traced) (name : NonterminalString) (item : Dotted Bits) → b.traced ≡ traced → GoesOn b item → (e : PlainEdge) → Contains (onward_edges traced name item) e → Gives b name item e
+  onward_given : (traced : Traced) (name : NonterminalString) (item : Dotted Bits) → b.traced ≡ traced → GoesOn b item → (e : PlainEdge) → Contains (onward_edges traced name item) e → GivesEdge b name item e
   onward_given Shift name item is on e c = elim (contains-cons _ [] e c) [ inl h ↦ onward on (sym h) | inr none ↦ absurd (Contains-none e none) ]
   onward_given Reduce name item is on e c = elim (contains-cons _ (own_edge item.production item.index ∷ []) e c) [
     | inl h ↦ onward on (sym h)
     | inr k ↦ elim (contains-cons (own_edge item.production item.index) [] e k) [ inl h ↦ itself on is (sym h) | inr none ↦ absurd (Contains-none e none) ]
   ]
 
-  onward_there : (traced : Traced) (name : NonterminalString) (item : Dotted Bits) → b.traced ≡ traced → GoesOn b item → (e : PlainEdge) → Gives b name item e → Contains (onward_edges traced name item) e
+  onward_there : (traced : Traced) (name : NonterminalString) (item : Dotted Bits) → b.traced ≡ traced → GoesOn b item → (e : PlainEdge) → GivesEdge b name item e → Contains (onward_edges traced name item) e
   onward_there Shift name item is on e (onward o h) = subst (Contains (onward_edges Shift name item)) (sym h) (contains_head _ [])
   onward_there Reduce name item is on e (onward o h) = subst (Contains (onward_edges Reduce name item)) (sym h) (contains_head _ (own_edge item.production item.index ∷ []))
   onward_there Shift name item is on e (itself o reduces h) = cc
@@ -154,7 +154,7 @@ module _ (b : Backtrace) where
   -- the edges that the item gives for the nonterminal are there, and the nonterminals to which it
   -- leads were met
   record IsDone (met : List Meeting) (es : List PlainEdge) (m : Meeting) (item : Dotted Bits) : Type 0 where
-    gives : (e : PlainEdge) → Gives b m.1 item e → Contains es e
+    gives : (e : PlainEdge) → GivesEdge b m.1 item e → Contains es e
     leads : (n : Meeting) → GoesOn b item → IsSource b item.production item.index m.0 n → Contains met n
 
   -- this holds of each item that takes the nonterminal
@@ -263,7 +263,7 @@ module _ (b : Backtrace) where
           let edge = stop_edge n.1 kind in
           completes_item duties es (edge ∷ es) later (λ m item done. done_on later.after (edge ∷ []) es m item done) (λ d c. c) (record { gives = λ e g. subst (Contains (edge ∷ es)) (stop_is e g) (contains_head edge es); leads = λ k goes. absurd (out goes) })
         where
-          stop_is : (e : PlainEdge) → Gives b n.1 kind e → stop_edge n.1 kind ≡ e
+          stop_is : (e : PlainEdge) → GivesEdge b n.1 kind e → stop_edge n.1 kind ≡ e
           stop_is e (onward on h) = absurd (out on)
           stop_is e (itself on reduces h) = absurd (out on)
           stop_is e (gives_stop o h) = sym h
@@ -316,7 +316,7 @@ module _ (b : Backtrace) where
     unfolding all
     there_traced e c = elim (contains-cons (own_edge b.item.production b.item.index) order.given e c) [ inl h ↦ first (sym h) | inr d ↦ gives_traced order.walk (owed_sources b.item.production b.item.index b.state order.sources order.begins (λ m source. begins source)) e d ]
 
-    end_node : (n : TraceGraphNode) → IsEnd all n → Contains graph.nodes n
+    end_node : (n : TraceGraphNode) → IsEndpoint all n → Contains graph.nodes n
     unfolding all
     end_node n end = turn_adds order.nodes n (in_ends all n end)
 

@@ -5,7 +5,7 @@ use Rattle.std.proofs.lemmas.List.{take_all, reverse-append, reverse-reverse, le
 use Rattle.lalrpop_collections.proofs.theory.lists.Places.{slice_get-push_at, same_some}
 use Rattle.std.proofs.lemmas.Option.{slice_get_within}
 use Rattle.lalrpop_traces.proofs.theory.traces.PathsLeft.{take_none}
-use Rattle.lalrpop_traces.specs.Words.{node_count, numbers_from, total, weight, numbers_at, load_of, load, frames, edge_weight, bound, bound_of, IsEnded}
+use Rattle.lalrpop_traces.specs.Words.{node_count, edge_numbers_to_source, total, weight, numbers_at, load_of, load, frames, edge_weight, bound, bound_of, IsEnded}
 use Rattle.lalrpop_traces.specs.declared.trace.enumerator.PathEnumerator.{PathEnumerator}
 use Rattle.lalrpop_traces.specs.declared.trace.node.TraceGraphNode.{TraceGraphNode}
 use Rattle.lalrpop_traces.specs.declared.trace.trace_graph.TraceGraph.{TraceGraph}
@@ -33,23 +33,23 @@ module _ (g : TraceGraph) (start : TraceGraphNode) (n : ℕ) where
   taken fs left k at = omega (arith, load_split fs left, load_split fs (suc left), total_more (weight g (n - length fs)) (numbers_at g start fs) left k at)
 
   -- a nonterminal is entered, with all its edges left
-  pub entered : (s : EnumeratorState) (fs : List EnumeratorState) → length fs < n → load_of g start n (s ∷ fs) (length (numbers_from g s.number)) < load_of g start n fs s.left + weight g (n - length fs) s.number
+  pub entered : (s : EnumeratorState) (fs : List EnumeratorState) → length fs < n → load_of g start n (s ∷ fs) (length (edge_numbers_to_source g s.number)) < load_of g start n fs s.left + weight g (n - length fs) s.number
   entered s fs room =
       let e : n - length fs ≡ suc (n - suc (length fs)) = omega (arith, room) in
-      let w : weight g (n - length fs) s.number ≡ 2 + total (weight g (n - suc (length fs))) (numbers_from g s.number) = ap (λ q. weight g q s.number) e in
-      let t : total (weight g (n - suc (length fs))) (take (length (numbers_from g s.number)) (numbers_from g s.number)) ≡ total (weight g (n - suc (length fs))) (numbers_from g s.number) = ap (total (weight g (n - suc (length fs)))) (take_all (length (numbers_from g s.number)) (numbers_from g s.number) (omega arith)) in
+      let w : weight g (n - length fs) s.number ≡ 2 + total (weight g (n - suc (length fs))) (edge_numbers_to_source g s.number) = ap (λ q. weight g q s.number) e in
+      let t : total (weight g (n - suc (length fs))) (take (length (edge_numbers_to_source g s.number)) (edge_numbers_to_source g s.number)) ≡ total (weight g (n - suc (length fs))) (edge_numbers_to_source g s.number) = ap (total (weight g (n - suc (length fs)))) (take_all (length (edge_numbers_to_source g s.number)) (edge_numbers_to_source g s.number) (omega arith)) in
       omega (arith, w, t)
 
 -- a walk that entered a nonterminal has less weight left than before it took the edge to it
-pub entered_load : (old : PathEnumerator) (graph : TraceGraph) (start : TraceGraphNode) (fs : List EnumeratorState) (left number : ℕ) → graph ≡ old.graph.now → start ≡ old.start → fs ≡ record { number = number; left = old.left } ∷ frames old → left ≡ length (numbers_from graph number) → length (frames old) < node_count old.graph.now → load_of graph start (node_count graph) fs left < load old + edge_weight old number
+pub entered_load : (old : PathEnumerator) (graph : TraceGraph) (start : TraceGraphNode) (fs : List EnumeratorState) (left number : ℕ) → graph ≡ old.graph.now → start ≡ old.start → fs ≡ record { number = number; left = old.left } ∷ frames old → left ≡ length (edge_numbers_to_source graph number) → length (frames old) < node_count old.graph.now → load_of graph start (node_count graph) fs left < load old + edge_weight old number
 entered_load old graph start fs left number same_graph same_start same_frames count room =
     let s : EnumeratorState = record { number = number; left = old.left } in
     let g = old.graph.now in
-    let is : load_of graph start (node_count graph) fs left ≡ load_of g old.start (node_count g) (s ∷ frames old) (length (numbers_from g number)) =
+    let is : load_of graph start (node_count graph) fs left ≡ load_of g old.start (node_count g) (s ∷ frames old) (length (edge_numbers_to_source g number)) =
     ap (λ (h : TraceGraph). load_of h start (node_count h) fs left) same_graph
     ∙ ap (λ (p : TraceGraphNode). load_of g p (node_count g) fs left) same_start
     ∙ ap (λ (es : List EnumeratorState). load_of g old.start (node_count g) es left) same_frames
-    ∙ ap (λ (m : ℕ). load_of g old.start (node_count g) (s ∷ frames old) m) (count ∙ ap (λ (h : TraceGraph). length (numbers_from h number)) same_graph) in
+    ∙ ap (λ (m : ℕ). load_of g old.start (node_count g) (s ∷ frames old) m) (count ∙ ap (λ (h : TraceGraph). length (edge_numbers_to_source h number)) same_graph) in
     omega (arith, is, entered g old.start (node_count g) s (frames old) room)
 
 -- a walk that took an edge has less weight left by that of the edge
@@ -63,15 +63,15 @@ none_load g start n fs after left e at =
     load_split g start n fs after ∙ ap (λ (ks : List ℕ). total w ks + below g start n fs) (sym (take_none (numbers_at g start fs) after at)) ∙ sym (load_split g start n fs (suc after)) ∙ ap (load_of g start n fs) (sym e)
 
 -- the numbers of the edges to the newest node
-at_newest : (g : TraceGraph) (start : TraceGraphNode) (stack newest_first : List EnumeratorState) (s : EnumeratorState) → stack ≡ reverse newest_first → slice_get stack (length stack - 1) ≡ Some s → numbers_at g start newest_first ≡ numbers_from g s.number
+at_newest : (g : TraceGraph) (start : TraceGraphNode) (stack newest_first : List EnumeratorState) (s : EnumeratorState) → stack ≡ reverse newest_first → slice_get stack (length stack - 1) ≡ Some s → numbers_at g start newest_first ≡ edge_numbers_to_source g s.number
 at_newest g start stack [] s e at = absurd (omega (arith, slice_get_within stack (length stack - 1) s at, ap length e))
 at_newest g start stack (y ∷ ys) s e at =
     let last : stack ≡ reverse ys ++ y ∷ [] = e ∙ reverse-append (y ∷ []) ys in
     let n : length stack - 1 ≡ length (reverse ys) = omega (arith, ap length last, length-append (reverse ys) (y ∷ [])) in
     let same : Some y ≡ Some s = sym (slice_get-push_at (reverse ys) y) ∙ ap (λ k. slice_get (reverse ys ++ y ∷ []) k) (sym n) ∙ ap (λ xs. slice_get xs (length stack - 1)) (sym last) ∙ at in
-    ap (λ (t : EnumeratorState). numbers_from g t.number) (same_some y s same)
+    ap (λ (t : EnumeratorState). edge_numbers_to_source g t.number) (same_some y s same)
 
-pub at_last : (g : TraceGraph) (start : TraceGraphNode) (stack : List EnumeratorState) (s : EnumeratorState) → slice_get stack (length stack - 1) ≡ Some s → numbers_at g start (reverse stack) ≡ numbers_from g s.number
+pub at_last : (g : TraceGraph) (start : TraceGraphNode) (stack : List EnumeratorState) (s : EnumeratorState) → slice_get stack (length stack - 1) ≡ Some s → numbers_at g start (reverse stack) ≡ edge_numbers_to_source g s.number
 at_last g start stack s at = at_newest g start stack (reverse stack) s (sym (reverse-reverse stack)) at
 
 load_some : (g : TraceGraph) (start : TraceGraphNode) (n : ℕ) (fs : List EnumeratorState) (left : ℕ) → 0 < length fs → 1 ≤ load_of g start n fs left

@@ -7,4 +7,4 @@ returns-clause-right_sides c own = traced_right_sides (asked c.args.trace.now) o
 
 pub returns-clause-known : goal.returns-clause-known
 returns-clause-known c known own =
-    known_edges c.args.trace.now.ground.now.first_sets.now _ known (traced_right_sides (asked c.args.trace.now) own _ c.in_ok-trace_item.ensures.traced)
+    known_edges c.args.trace.now.context.now.first_sets.now _ known (traced_right_sides (asked c.args.trace.now) own _ c.in_ok-trace_item.ensures.traced)

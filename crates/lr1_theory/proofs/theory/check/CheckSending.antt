@@ -9,7 +9,7 @@ use Rattle.lalrpop_grammar.specs.Words.{IsFirstSetBefore, FitsTokens, production
 use Rattle.lr1_theory.proofs.Types.{Grammar, NonterminalString, Production, State, Symbol}
 use Rattle.lalrpop_grammar.specs.declared.repr.Symbol.TheVariants.{Nonterminal}
 use Rattle.lalrpop_collections.specs.lists.Entries.{IsQueued}
-use Rattle.lalrpop_states.specs.Words.{Carried, Sends, IsBegunAt, IsOver, IsInto, Gives, at_place, target_in}
+use Rattle.lalrpop_states.specs.Words.{Carried, Sends, IsPlaceAtStart, IsOver, IsInto, CarriesFromPlace, at_place, target_in}
 use Rattle.lalrpop_states.specs.declared.lr1_core.place.Place.{Place}
 use Rattle.lalrpop_collections.proofs.theory.lists.Growth.{Adds-one, Adds-none, Adds-then, Adds-same, queued_weighed, known_kept, queued_among}
 use Rattle.lalrpop_collections.proofs.theory.lists.Members.{Contains-none}
@@ -57,12 +57,12 @@ same_place a b n p i =
     ap (λ n. make n a.item.production a.item.index) n ∙ ap (λ p. make b.state p a.item.index) p ∙ ap (λ i. make b.state b.item.production i) i
 
 -- sending tokens to the productions of a list, one more at a time
-pub Begun-none : (n : ℕ) (tokens : Bits) (table : Carried) (queue : List Place) → Sends (IsBegunAt n []) tokens table table queue queue
-Begun-none n tokens table queue = Sends-none (IsBegunAt n []) tokens table queue (λ k b. Contains-none k.item.production b.among)
+pub Begun-none : (n : ℕ) (tokens : Bits) (table : Carried) (queue : List Place) → Sends (IsPlaceAtStart n []) tokens table table queue queue
+Begun-none n tokens table queue = Sends-none (IsPlaceAtStart n []) tokens table queue (λ k b. Contains-none k.item.production b.among)
 
-pub Begun-more : (n : ℕ) (ps : List Production) (p : Production) (key : Place) (tokens : Bits) (a b c : Carried) (s t u : List Place) → key.state ≡ n → key.item.production ≡ p → key.item.index ≡ 0 → Sends (IsBegunAt n ps) tokens a b s t → IsQueued key tokens b c t u → Sends (IsBegunAt n (ps ++ p ∷ [])) tokens a c s u
+pub Begun-more : (n : ℕ) (ps : List Production) (p : Production) (key : Place) (tokens : Bits) (a b c : Carried) (s t u : List Place) → key.state ≡ n → key.item.production ≡ p → key.item.index ≡ 0 → Sends (IsPlaceAtStart n ps) tokens a b s t → IsQueued key tokens b c t u → Sends (IsPlaceAtStart n (ps ++ p ∷ [])) tokens a c s u
 Begun-more n ps p key tokens a b c s t u at is dot x y =
-    Sends-then (IsBegunAt n ps) (λ k. key ≡ k) (IsBegunAt n (ps ++ p ∷ [])) tokens
+    Sends-then (IsPlaceAtStart n ps) (λ k. key ≡ k) (IsPlaceAtStart n (ps ++ p ∷ [])) tokens
     (λ k h. record { state = h.state; start = h.start; among = Contains-append_left ps (p ∷ []) k.item.production h.among })
     (λ k e. record { state = sym (ap (λ (d : Place). d.state) e) ∙ at; start = sym (ap (λ (d : Place). d.item.index) e) ∙ dot; among = subst (Contains (ps ++ p ∷ [])) (sym is ∙ ap (λ (d : Place). d.item.production) e) (Contains-push ps p) })
     (λ k h. elim (Contains-push_cases ps p k.item.production h.among) [
@@ -93,8 +93,8 @@ module _ (states : List (State Bits)) (place : Place) (tokens : Bits) where
       old new queue pushed (Sends-one key tokens old new queue pushed sent)
 
 module _ (g : Grammar) (states : List (State Bits)) (place : Place) (tokens : Bits) where
-  pub Gives-over : (old new : Carried) (queue pushed : List Place) → ((name : NonterminalString) → slice_get place.item.production.symbols place.item.index ≡ Some (Nonterminal name) → ⊥) → Contains old (place, tokens) → Sends (IsOver states place) tokens old new queue pushed → Gives g states place old new queue pushed
-  Gives-over old new queue pushed none entry over = record {
+  pub CarriesFromPlace-over : (old new : Carried) (queue pushed : List Place) → ((name : NonterminalString) → slice_get place.item.production.symbols place.item.index ≡ Some (Nonterminal name) → ⊥) → Contains old (place, tokens) → Sends (IsOver states place) tokens old new queue pushed → CarriesFromPlace g states place old new queue pushed
+  CarriesFromPlace-over old new queue pushed none entry over = record {
     tokens = tokens;
     entry = entry;
     middle = new;
@@ -106,21 +106,21 @@ module _ (g : Grammar) (states : List (State Bits)) (place : Place) (tokens : Bi
     fits = λ f. f;
   }
 
-  pub Gives-into : (name : NonterminalString) (given : Bits) (old middle new : Carried) (queue waiting pushed : List Place) → slice_get place.item.production.symbols place.item.index ≡ Some (Nonterminal name) → Contains old (place, tokens) → Sends (IsOver states place) tokens old middle queue waiting → Sends (IsBegunAt place.state (productions_of g name)) given middle new waiting pushed →
-      IsFirstSetBefore (rules_of g) (drop (place.item.index + 1) place.item.production.symbols) tokens given → (FitsTokens g.terminals tokens → FitsTokens g.terminals given) → Gives g states place old new queue pushed
-  Gives-into name given old middle new queue waiting pushed behind entry over into first fits = record {
+  pub CarriesFromPlace-into : (name : NonterminalString) (given : Bits) (old middle new : Carried) (queue waiting pushed : List Place) → slice_get place.item.production.symbols place.item.index ≡ Some (Nonterminal name) → Contains old (place, tokens) → Sends (IsOver states place) tokens old middle queue waiting → Sends (IsPlaceAtStart place.state (productions_of g name)) given middle new waiting pushed →
+      IsFirstSetBefore (rules_of g) (drop (place.item.index + 1) place.item.production.symbols) tokens given → (FitsTokens g.terminals tokens → FitsTokens g.terminals given) → CarriesFromPlace g states place old new queue pushed
+  CarriesFromPlace-into name given old middle new queue waiting pushed behind entry over into first fits = record {
     tokens = tokens;
     entry = entry;
     middle = middle;
     waiting = waiting;
     over = over;
     given = given;
-    into = Sends-same (IsBegunAt place.state (productions_of g name)) (IsInto g place) given
+    into = Sends-same (IsPlaceAtStart place.state (productions_of g name)) (IsInto g place) given
         (λ k b. record { name = name; behind = behind; begun = b })
         (λ k i.
         let both : Some (Nonterminal i.name) ≡ Some (Nonterminal name) = sym i.behind ∙ behind in
         let same : i.name ≡ name = cc in
-        subst (λ (n : NonterminalString). IsBegunAt place.state (productions_of g n) k) same i.begun)
+        subst (λ (n : NonterminalString). IsPlaceAtStart place.state (productions_of g n) k) same i.begun)
         middle new waiting pushed into;
     first = λ n b. first;
     fits = fits;

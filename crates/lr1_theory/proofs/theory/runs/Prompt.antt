@@ -5,11 +5,11 @@ use Rattle.std.proofs.Common.{◌≡◌, ℕ, suc, ◌+◌, ◌≤◌, ◌⊎◌
 use Rattle.std.proofs.lemmas.List.{append_cancel_right}
 use Rattle.lr1_theory.proofs.Types.{NonterminalString, Production, Symbol, TerminalString, Token}
 use Rattle.lalrpop_grammar.specs.declared.repr.Symbol.TheVariants.{Nonterminal, Terminal}
-use Rattle.lalrpop_grammar.specs.Words.{Derives, symbols_of, IsSentence, IsOnNoRightSide, ValidToken, IsLR1, Reduce, Contents, AreFaithful, AreCanonical, Tree}
+use Rattle.lalrpop_grammar.specs.Words.{Derives, terminal_symbols, IsSentence, IsOnNoRightSide, ValidToken, IsLR1, Reduce, Contents, AreFaithful, AreCanonical, Tree}
 use Rattle.lalrpop_grammar.specs.Words.{Leaf, Configuration, next_token, Move, Stands, Goes, goes_on, received, moves_on, shifts_or, move, Reaches, here, further}
 use Rattle.lalrpop_grammar.specs.Words.{begin, Refused, Limit, IsRightNext, HasOutcome, stuck, other_end, cut_off, IsPromptRefusal, before_all, behind_shift}
 use Rattle.lalrpop_collections.proofs.theory.lists.Lists.{drop_all}
-use Rattle.lalrpop_grammar.proofs.theory.grammars.SymbolLists.{symbols_of-append}
+use Rattle.lalrpop_grammar.proofs.theory.grammars.SymbolLists.{terminal_symbols-append}
 use Rattle.lalrpop_grammar.proofs.theory.grammars.Derivations.{Derives-to, Derives-trans, Derives-right}
 use Rattle.lalrpop_grammar.proofs.theory.grammars.Parses.{sentence_tree}
 use Rattle.lalrpop_grammar.proofs.theory.runs.Steps.{IsGoing, IsEnding, same_goes, same_ends, no_longer, Halts, ends_halts, stands_halts, Reaches-append, LastStep, no_step, step_from, last_step}
@@ -36,10 +36,10 @@ module _ (g : List Production) (start : NonterminalString) (states : ℕ → Con
   pub steps_right : (w : List TerminalString) (c : Configuration) → Tracks g states w c → (move states c ≡ Stands) ⊎ IsRightNext g start (spelled c.trees) c.rest
   steps_right w c tr = go (move states c) refl (did states c)
     where
-      on_token : (rest : List TerminalString) (l : List Symbol) → BeginsWith (next_token rest) l → Derives g (Nonterminal start ∷ []) (symbols_of (spelled c.trees) ++ l) → IsRightNext g start (spelled c.trees) rest
-      on_token [] l ends_here d = Derives-to (append-nil (symbols_of (spelled c.trees))) d
+      on_token : (rest : List TerminalString) (l : List Symbol) → BeginsWith (next_token rest) l → Derives g (Nonterminal start ∷ []) (terminal_symbols (spelled c.trees) ++ l) → IsRightNext g start (spelled c.trees) rest
+      on_token [] l ends_here d = Derives-to (append-nil (terminal_symbols (spelled c.trees))) d
       on_token (t ∷ rest) l (goes_on_with _ r) d =
-          (r, Derives-to (sym (append_assoc (symbols_of (spelled c.trees)) (Terminal t ∷ []) r) ∙ ap (λ k. k ++ r) (sym (symbols_of-append (spelled c.trees) (t ∷ [])))) d)
+          (r, Derives-to (sym (append_assoc (terminal_symbols (spelled c.trees)) (Terminal t ∷ []) r) ∙ ap (λ k. k ++ r) (sym (terminal_symbols-append (spelled c.trees) (t ∷ [])))) d)
 
       go : (m : Move) → move states c ≡ m → Did states c m → (m ≡ Stands) ⊎ IsRightNext g start (spelled c.trees) c.rest
       go _ e (stood h k) = inl refl

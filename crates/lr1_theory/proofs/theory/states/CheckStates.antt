@@ -17,7 +17,7 @@ use Rattle.lalrpop_grammar.specs.contracts.repr.TerminalStringOrd.TheImpl as ter
 use Rattle.lr1_theory.proofs.Types.{Grammar, Nil, Production, State, StateIndex, Symbol}
 use Rattle.lalrpop_states.specs.closures.Closure.{dotted_of}
 use Rattle.lalrpop_collections.specs.lists.CheckSets.{IsAdded}
-use Rattle.lalrpop_states.specs.states.CheckStates.{reduced, dots, target_of, AreListed}
+use Rattle.lalrpop_states.specs.states.CheckStates.{productions_of_reductions, dots, target_of, AreListed}
 use Rattle.lalrpop_collections.proofs.theory.lists.CheckSets.{inserted}
 use Rattle.std.specs.declared.cmp.Ordering.{Ordering}
 use Rattle.std.proofs.lemmas.List.Elements.{Contains-append_left, Contains-append_right, Contains-append_cases}
@@ -177,8 +177,8 @@ Reductions = List (Bits × Bor Production)
 -- the productions of the reductions differ, and the keys are these productions with the dot at the
 -- end
 pub record AreReduced (reductions : Reductions) (found : List (Dotted Nil)) : Type 0 where
-  pub differ : AllDiffer (reduced reductions)
-  pub keys : (k : Dotted Nil) → Contains found k ↔ ((p : Production) × Contains (reduced reductions) p × (finished p ≡ k))
+  pub differ : AllDiffer (productions_of_reductions reductions)
+  pub keys : (k : Dotted Nil) → Contains found k ↔ ((p : Production) × Contains (productions_of_reductions reductions) p × (finished p ≡ k))
 
 pub Reduced-none : (keys : List (Dotted Nil)) → keys ≡ [] → AreReduced [] keys
 Reduced-none keys e = record {
@@ -189,29 +189,29 @@ Reduced-none keys e = record {
   );
 }
 
-reduced_push : (rs : Reductions) (r : Bits × Bor Production) → reduced (rs ++ r ∷ []) ≡ reduced rs ++ r.1.now ∷ []
+reduced_push : (rs : Reductions) (r : Bits × Bor Production) → productions_of_reductions (rs ++ r ∷ []) ≡ productions_of_reductions rs ++ r.1.now ∷ []
 reduced_push [] r = refl
 reduced_push (q ∷ rs) r = ap (λ ps. q.1.now ∷ ps) (reduced_push rs r)
 
 pub finished_same : (p q : Production) → finished p ≡ finished q → p ≡ q
 finished_same p q e = ap (λ (k : Dotted Nil). k.production) e
 
-pub reduced_has : (rs : Reductions) (keys : List (Dotted Nil)) → AreReduced rs keys → (p : Production) → Contains keys (finished p) ↔ Contains (reduced rs) p
+pub reduced_has : (rs : Reductions) (keys : List (Dotted Nil)) → AreReduced rs keys → (p : Production) → Contains keys (finished p) ↔ Contains (productions_of_reductions rs) p
 reduced_has rs keys a p = (
-  λ c. let h = (a.keys (finished p)).0 c in subst (Contains (reduced rs)) (finished_same h.0 p h.2) h.1,
+  λ c. let h = (a.keys (finished p)).0 c in subst (Contains (productions_of_reductions rs)) (finished_same h.0 p h.2) h.1,
   λ c. (a.keys (finished p)).1 (p, c, refl),
 )
 
 pub Reduced-more : (rs : Reductions) (r : Bits × Bor Production) (old new : List (Dotted Nil)) → ¬ Contains old (finished r.1.now) → IsAdded (finished r.1.now) old new → AreReduced rs old → AreReduced (rs ++ r ∷ []) new
 Reduced-more rs r old new out a b =
     let p = r.1.now in record {
-      differ = subst (λ (ps : List Production). AllDiffer ps) (sym (reduced_push rs r)) (differ_push (reduced rs) p b.differ (λ c. out ((reduced_has rs old b p).1 c)));
+      differ = subst (λ (ps : List Production). AllDiffer ps) (sym (reduced_push rs r)) (differ_push (productions_of_reductions rs) p b.differ (λ c. out ((reduced_has rs old b p).1 c)));
       keys = λ k. (
         λ c. elim (a.from k c) [
-          | inl o ↦ let h = (b.keys k).0 o in (h.0, subst (λ (ps : List Production). Contains ps h.0) (sym (reduced_push rs r)) (Contains-append_left (reduced rs) (p ∷ []) h.0 h.1), h.2)
-          | inr e ↦ (p, subst (λ (ps : List Production). Contains ps p) (sym (reduced_push rs r)) (Contains-append_right (reduced rs) (p ∷ []) p (contains_head p [])), e)
+          | inl o ↦ let h = (b.keys k).0 o in (h.0, subst (λ (ps : List Production). Contains ps h.0) (sym (reduced_push rs r)) (Contains-append_left (productions_of_reductions rs) (p ∷ []) h.0 h.1), h.2)
+          | inr e ↦ (p, subst (λ (ps : List Production). Contains ps p) (sym (reduced_push rs r)) (Contains-append_right (productions_of_reductions rs) (p ∷ []) p (contains_head p [])), e)
         ],
-        λ h. elim (Contains-append_cases (reduced rs) (p ∷ []) h.0 (subst (λ (ps : List Production). Contains ps h.0) (reduced_push rs r) h.1)) [
+        λ h. elim (Contains-append_cases (productions_of_reductions rs) (p ∷ []) h.0 (subst (λ (ps : List Production). Contains ps h.0) (reduced_push rs r) h.1)) [
           | inl o ↦ a.kept k ((b.keys k).1 (h.0, o, h.2))
           | inr l ↦ elim (contains-cons p [] h.0 l) [ inl e ↦ subst (Contains new) (ap finished e ∙ h.2) a.there | inr none ↦ absurd (Contains-none h.0 none) ]
         ],
@@ -219,25 +219,25 @@ Reduced-more rs r old new out a b =
     }
 
 -- productions of reductions do not differ if a later reduction is by one of the keys
-pub Reduced-twice : (rs : Reductions) (i : ℕ) (r : Bits × Bor Production) (keys : List (Dotted Nil)) → AreReduced (take i rs) keys → slice_get rs i ≡ Some r → Contains keys (finished r.1.now) → AllDiffer (reduced rs) → ⊥
+pub Reduced-twice : (rs : Reductions) (i : ℕ) (r : Bits × Bor Production) (keys : List (Dotted Nil)) → AreReduced (take i rs) keys → slice_get rs i ≡ Some r → Contains keys (finished r.1.now) → AllDiffer (productions_of_reductions rs) → ⊥
 Reduced-twice rs i r keys a at c d =
     let p = r.1.now in
-    let before = place (reduced (take i rs)) p ((reduced_has (take i rs) keys a p).0 c) in
+    let before = place (productions_of_reductions (take i rs)) p ((reduced_has (take i rs) keys a p).0 c) in
     earlier rs i before.0 p before.2 (reduced_at rs i r at) d
   where
-    reduced_at : (rs : Reductions) (i : ℕ) (r : Bits × Bor Production) → slice_get rs i ≡ Some r → slice_get (reduced rs) i ≡ Some r.1.now
+    reduced_at : (rs : Reductions) (i : ℕ) (r : Bits × Bor Production) → slice_get rs i ≡ Some r → slice_get (productions_of_reductions rs) i ≡ Some r.1.now
     reduced_at [] i r e = cc
     reduced_at (q ∷ rs) zero r e = ap (λ (x : Bits × Bor Production). Some x.1.now) (same_some q r e)
     reduced_at (q ∷ rs) (suc i) r e = reduced_at rs i r e
 
-    within : (rs : Reductions) (i j : ℕ) (p : Production) → slice_get (reduced (take i rs)) j ≡ Some p → (j < i) × (slice_get (reduced rs) j ≡ Some p)
+    within : (rs : Reductions) (i j : ℕ) (p : Production) → slice_get (productions_of_reductions (take i rs)) j ≡ Some p → (j < i) × (slice_get (productions_of_reductions rs) j ≡ Some p)
     within [] zero j p e = let none : ⊥ = cc in absurd none
     within [] (suc i) j p e = let none : ⊥ = cc in absurd none
     within (q ∷ rs) zero j p e = let none : ⊥ = cc in absurd none
     within (q ∷ rs) (suc i) zero p e = (omega arith, e)
     within (q ∷ rs) (suc i) (suc j) p e = let w = within rs i j p e in (omega (arith, w.0), w.1)
 
-    earlier : (rs : Reductions) (i j : ℕ) (p : Production) → slice_get (reduced (take i rs)) j ≡ Some p → slice_get (reduced rs) i ≡ Some p → AllDiffer (reduced rs) → ⊥
+    earlier : (rs : Reductions) (i j : ℕ) (p : Production) → slice_get (productions_of_reductions (take i rs)) j ≡ Some p → slice_get (productions_of_reductions rs) i ≡ Some p → AllDiffer (productions_of_reductions rs) → ⊥
     earlier rs i j p e at d = let w = within rs i j p e in d j i p w.0 w.1 at
 
 -- ---- the symbol after a dot leads to the moved item

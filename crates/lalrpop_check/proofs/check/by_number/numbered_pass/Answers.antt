@@ -1,13 +1,10 @@
 use Rattle.std.proofs.Common.{refl}
-use Rattle.lalrpop_check.proofs.theory.check.NumberedPass.{edges_rise, items_within, passed, passed_places}
+use Rattle.lalrpop_check.proofs.theory.check.NumberedPass.{items_within, passed, passed_places}
 use Rattle.lalrpop_check.proofs.theory.check.NumberedRight.{all_reached, numbered_states, of_grammar}
 use Rattle.lalrpop_check.proofs.check.by_number.numbered_pass.Goals as goal
 
-pub all_lead_on-requires-clause-ascend : goal.all_lead_on-requires-clause-ascend
-all_lead_on-requires-clause-ascend c s state at = edges_rise c.args.grammar.now c.args.start.now c.args.numbers.now c.requires.numbers c.args.states.now c.args.numbered.now c.requires.listed s state at
-
-pub all_lead_on-requires-clause-known : goal.all_lead_on-requires-clause-known
-all_lead_on-requires-clause-known c s k state at among = items_within c.args.grammar.now c.args.start.now c.args.numbers.now c.requires.numbers c.args.states.now c.args.numbered.now c.requires.listed s k state at among
+pub all_lead_on-requires : goal.all_lead_on-requires
+all_lead_on-requires c s k state at among = items_within c.args.grammar.now c.args.start.now c.args.numbers.now c.requires.numbers c.args.states.now c.args.numbered.now c.requires.listed s k state at among
 
 pub new-requires-clause-closed : goal.new-requires-clause-closed
 new-requires-clause-closed c =

@@ -2,7 +2,7 @@ use Rattle.std.proofs.Common.{◌≡◌, ℕ, refl, sym, ◌∙◌, ap, subst, a
 use Rattle.std.specs.Prelude.{slice_get}
 use Rattle.std.proofs.lemmas.Option.{slice_get_within}
 use Rattle.std.proofs.lemmas.Bool.{cases_lt}
-use Rattle.lalrpop_base.specs.Words.{Bits, EachItem, HoldsCarried}
+use Rattle.lalrpop_base.specs.Words.{Bits, EachItem, HoldsTableTokens}
 use Rattle.lalrpop_check.proofs.Types.{State}
 use Rattle.lalrpop_collections.proofs.theory.lists.Places.{slice_get_at, same_some}
 use Rattle.lalrpop_check.proofs.check.carrying.all_have_carried.Goals as goal
@@ -23,8 +23,8 @@ loop-number-preserved c n s less at =
     let same : c.loop-number.number ≡ n = omega arith in
     let there = slice_get_at c.args.states.now c.loop-number.number c.index-states-number.result c.loop-number-test.true c.index-states-number.is in
     let state : c.index-states-number.result ≡ s = same_some c.index-states-number.result s (sym there ∙ ap (slice_get c.args.states.now) same ∙ at) in
-    subst (λ (t : State Bits). EachItem (HoldsCarried c.args.table.now.entries n) t.reductions.items) state
-    (subst (λ (k : ℕ). EachItem (HoldsCarried c.args.table.now.entries k) c.index-states-number.result.reductions.items) same (rw (← c.deref.ensures.value) (c.in_ok-have_carried.ensures.0 c.if-not-branch.false))))
+    subst (λ (t : State Bits). EachItem (HoldsTableTokens c.args.table.now.entries n) t.reductions.items) state
+    (subst (λ (k : ℕ). EachItem (HoldsTableTokens c.args.table.now.entries k) c.index-states-number.result.reductions.items) same (rw (← c.deref.ensures.value) (c.in_ok-have_carried.ensures.0 c.if-not-branch.false))))
     (cases_lt n c.loop-number.number)
 
 pub returns : goal.returns

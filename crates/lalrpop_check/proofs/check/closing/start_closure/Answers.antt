@@ -1,12 +1,12 @@
 use Rattle.std.proofs.lemmas.Result.{IfOk-weaker}
-use Rattle.lalrpop_base.specs.Words.{IsAtStart, IsBegun, productions, productions_of}
+use Rattle.lalrpop_base.specs.Words.{IsAtStart, IsOneAtStart, productions, productions_of}
 use Rattle.lalrpop_grammar.proofs.theory.grammars.Grammars.{productions_own}
 use Rattle.lalrpop_check.proofs.theory.check.CheckClosing.{Begun-start, Closure-of}
 use Rattle.lalrpop_collections.proofs.theory.collections.Walks.{All-wait}
 use Rattle.lalrpop_check.proofs.check.closing.start_closure.Goals as goal
 
 pub close-requires-clause-waiting : goal.close-requires-clause-waiting
-close-requires-clause-waiting c = All-wait (IsBegun (productions_of c.args.grammar.now c.args.start.now)) _ _ c.new-walk.ensures.visited c.new-walk.ensures.waiting c.in_ok-visit_productions.ensures
+close-requires-clause-waiting c = All-wait (IsOneAtStart (productions_of c.args.grammar.now c.args.start.now)) _ _ c.new-walk.ensures.visited c.new-walk.ensures.waiting c.in_ok-visit_productions.ensures
 
 pub returns : goal.returns
 returns c =

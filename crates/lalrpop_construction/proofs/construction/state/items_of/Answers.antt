@@ -6,7 +6,7 @@ use Rattle.lalrpop_base.specs.Words.{Dotted, dotted_at, item_by, items_by}
 use Rattle.lalrpop_construction.proofs.Types.{Nil, Production}
 use Rattle.lalrpop_numbers.specs.declared.numbers.numbered.Numbered.{Numbered}
 use Rattle.lalrpop_states.proofs.theory.collapse.Merging.{taken}
-use Rattle.lalrpop_construction.proofs.theory.closures.SharedItems.{read_item}
+use Rattle.lalrpop_construction.proofs.theory.closures.PropagatedItems.{read_item}
 use Rattle.lalrpop_construction.proofs.construction.state.items_of.Goals as goal
 
 pub loop-item-init : goal.loop-item-init

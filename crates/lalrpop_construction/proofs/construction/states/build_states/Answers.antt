@@ -1,7 +1,7 @@
 use Rattle.std.proofs.Common.{◌≡◌, ◌∙◌, List, length, map, refl, subst, sym}
 use Rattle.std.proofs.lemmas.Bool.{false≢true}
 use Rattle.std.proofs.lemmas.List.{length-map}
-use Rattle.lalrpop_base.specs.Words.{IsClosureBy, ListsAll, begun, items_by, kernels_by}
+use Rattle.lalrpop_base.specs.Words.{IsClosureBy, ListsAll, item_at_start, items_by, kernels_by}
 use Rattle.lalrpop_construction.specs.Words.{AreMadeSoFar}
 use Rattle.lalrpop_construction.proofs.Types.{State}
 use Rattle.lalrpop_construction.proofs.theory.conflicts.GrownConflicts.{Listed-more}
@@ -30,7 +30,7 @@ returns-then-are_enough g c =
     let listed = Listed-more g.L.Lookahead.lists_conflicts k.rules.terminals old new state c.loop-conflicts.conflicts.items c.push_conflicts.new.list.items h.listed c.in_ok-push_conflicts.ensures here in
     let counted : c.len-in-loop-conflicts.result ≡ length c.push_conflicts.new.list.items = c.len-in-loop-conflicts.ensures ∙ c.push_conflicts.new.list.ok.0 in
     let enough = enough_for c.stop_after.ensures counted (c.if-are_enough.ensures.0 refl) in
-    Made-enough g.L.Lookahead.meaning (IsClosureBy g.L.Lookahead.meaning g.L.LookaheadBuild.begins g.L.LookaheadBuild.passes k.rules) g.L.Lookahead.lists_conflicts k.rules (map (begun k.lookahead) k.first) c.args.lr.now.stop_after
+    Made-enough g.L.Lookahead.meaning (IsClosureBy g.L.Lookahead.meaning g.L.LookaheadBuild.begins g.L.LookaheadBuild.passes k.rules) g.L.Lookahead.lists_conflicts k.rules (map (item_at_start k.lookahead) k.first) c.args.lr.now.stop_after
     (kernels_by c.numbers-numbers.result.now.items.items c.add_state.new.kernels) old new state c.loop-conflicts.conflicts.items c.push_conflicts.new.list.items c.in_ok-add_state.ensures.made.building here h.listed listed h.few enough
 
 pub loop-conflicts-smaller : goal.loop-conflicts-smaller

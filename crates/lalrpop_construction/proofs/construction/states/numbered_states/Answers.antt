@@ -1,7 +1,7 @@
 use Rattle.std.proofs.Common.{◌≡◌, ◌∙◌, ◌<◌, Contains, List, ap, length, ℕ, subst, sym}
 use Rattle.std.proofs.lemmas.List.{length-map}
 use Rattle.lalrpop_construction.proofs.Types.{State}
-use Rattle.lalrpop_base.specs.Words.{items_by, kernels_by}
+use Rattle.lalrpop_base.specs.Words.{NumbersAscend, items_by, kernels_by}
 use Rattle.lalrpop_construction.specs.states.NumberedStates.{AreNumberedAs, IsMadeByNumber, finished_in}
 use Rattle.lalrpop_construction.specs.declared.construction.numbered_state.NumberedState.{NumberedState}
 use Rattle.lalrpop_construction.proofs.theory.conflicts.GrownConflicts.{States-of}
@@ -22,6 +22,11 @@ numbered_state-requires-clause-known g c =
     let (state, grown, made) = c.in_ok-add_state.ensures.more c.if-branch.true in
     subst (λ (ks : List ℕ). (k : ℕ) → Contains ks k → k < length n.items.items) (sym c.deref.ensures.value)
     (Items-numbered n.items.items c.requires.items.ascend c.add_state.new.work.numbers.items state.items.vec.items made.items).known
+
+pub numbered_state-requires-clause-ascend : goal.numbered_state-requires-clause-ascend
+numbered_state-requires-clause-ascend g c =
+    let (state, grown, made) = c.in_ok-add_state.ensures.more c.if-branch.true in
+    subst (λ (es : List (ℕ × ℕ)). NumbersAscend es) (sym c.deref-in-loop-list.ensures.value) made.edges.ascend
 
 pub loop-list-preserved : goal.loop-list-preserved
 loop-list-preserved g c =

@@ -9,20 +9,20 @@ use Rattle.lalrpop_explain.proofs.explain.items.explained_items.Goals as goal
 
 pub loop-item-init : goal.loop-item-init
 loop-item-init c =
-    let ground = c.args.ground.now in
-    subst (λ (xs : List ExplainedItem). AreExplainedShifts ground.first_sets.now ground.states.now c.args.most c.args.state c.args.terminal.now [] xs) (sym c.new-list.ensures.items) no_item
+    let context = c.args.context.now in
+    subst (λ (xs : List ExplainedItem). AreExplainedShifts context.first_sets.now context.states.now c.args.most c.args.state c.args.terminal.now [] xs) (sym c.new-list.ensures.items) no_item
 
 pub loop-item-preserved : goal.loop-item-preserved
 loop-item-preserved c =
-    let ground = c.args.ground.now in
+    let context = c.args.context.now in
     let items : List (Dotted Bits) = c.args.items.now in
     let i = c.loop-item.item-index in
     let item : Dotted Bits = c.item-item.result in
     let more : take (i + 1) items ≡ take i items ++ item ∷ [] = take_more items i item c.loop-item-test.true ∙ ap (λ (x : Dotted Bits). take i items ++ x ∷ []) (sym c.item-item.is) in
-    subst (λ (xs : List (Dotted Bits)). AreExplainedShifts ground.first_sets.now ground.states.now c.args.most c.args.state c.args.terminal.now xs c.add_shift.new.list.items) (sym more)
-    (shifts_more ground.first_sets.now ground.states.now c.args.most c.args.state c.args.terminal.now (take i items) item c.loop-item.list.items c.add_shift.new.list.items c.loop-item.invariant c.in_ok-add_shift.ensures)
+    subst (λ (xs : List (Dotted Bits)). AreExplainedShifts context.first_sets.now context.states.now c.args.most c.args.state c.args.terminal.now xs c.add_shift.new.list.items) (sym more)
+    (shifts_more context.first_sets.now context.states.now c.args.most c.args.state c.args.terminal.now (take i items) item c.loop-item.list.items c.add_shift.new.list.items c.loop-item.invariant c.in_ok-add_shift.ensures)
 
 pub returns : goal.returns
 returns c =
-    let ground = c.args.ground.now in
-    subst (λ (xs : List (Dotted Bits)). AreExplainedShifts ground.first_sets.now ground.states.now c.args.most c.args.state c.args.terminal.now xs c.loop-item.list.items) (take_all c.loop-item.item-index c.args.items.now c.loop-item-test.false) c.loop-item.invariant
+    let context = c.args.context.now in
+    subst (λ (xs : List (Dotted Bits)). AreExplainedShifts context.first_sets.now context.states.now c.args.most c.args.state c.args.terminal.now xs c.loop-item.list.items) (take_all c.loop-item.item-index c.args.items.now c.loop-item-test.false) c.loop-item.invariant

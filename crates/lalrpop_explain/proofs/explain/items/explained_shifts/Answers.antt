@@ -5,5 +5,5 @@ use Rattle.lalrpop_explain.proofs.explain.items.explained_shifts.Goals as goal
 
 pub returns : goal.returns
 returns c =
-    let ground = c.args.ground.now in
-    subst (λ (xs : List (Dotted Bits)). AreExplainedShifts ground.first_sets.now ground.states.now c.args.most c.args.state c.args.terminal.now xs c.in_ok-list.list.items) c.items_in-items.ensures c.in_ok-list.ensures
+    let context = c.args.context.now in
+    subst (λ (xs : List (Dotted Bits)). AreExplainedShifts context.first_sets.now context.states.now c.args.most c.args.state c.args.terminal.now xs c.in_ok-list.list.items) c.items_in-items.ensures c.in_ok-list.ensures

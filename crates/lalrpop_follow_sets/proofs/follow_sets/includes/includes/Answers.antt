@@ -2,11 +2,11 @@ use Rattle.std.proofs.Common.{◌≡◌, ◌<◌, ◌≤◌, ◌+◌, [], ℕ, L
 use Rattle.std.specs.Prelude.{slice_get, Some}
 use Rattle.std.specs.declared.alloc.Global.{Global}
 use Rattle.std.specs.declared.vec.Vec.{Vec}
-use Rattle.lalrpop_follow_sets.specs.follow_sets.FollowWalks.{GoesThrough, SomeFront}
+use Rattle.lalrpop_follow_sets.specs.follow_sets.FollowWalks.{GoesThrough, SomeExpansion}
 use Rattle.lalrpop_base.specs.Words.{AddsThose}
 use Rattle.lalrpop_follow_sets.specs.declared.follow_sets.pass.Pass.{Pass}
 use Rattle.lalrpop_follow_sets.proofs.theory.follow_sets.FollowNodes.{state_of_node}
-use Rattle.lalrpop_follow_sets.proofs.theory.follow_sets.FrontWalks.{WalksFrom, WalksOver, all_includes, all_lookbacks, expansion_front, from_more, from_none, pair_named}
+use Rattle.lalrpop_follow_sets.proofs.theory.follow_sets.ExpansionWalks.{WalksFrom, WalksOver, all_includes, all_lookbacks, expansion_front, from_more, from_none, pair_named}
 use Rattle.lalrpop_collections.proofs.theory.lists.Places.{slice_get_at}
 use Rattle.lalrpop_follow_sets.proofs.follow_sets.includes.includes.Goals as goal
 
@@ -26,15 +26,15 @@ walk_all-requires-clause-listed c =
     let named = pair_named pass c.requires.pass node pair.0 pair.1 (pair_there pass node pair within c.index.ensures) in
     state_of_node pass c.requires.pass node pair.0 named.0 named.2
 
-pub walk_all-requires-clause-fronts : goal.walk_all-requires-clause-fronts
-walk_all-requires-clause-fronts c = λ k there.
+pub walk_all-requires-clause-expansions : goal.walk_all-requires-clause-expansions
+walk_all-requires-clause-expansions c = λ k there.
     let pass = c.args.pass.now in
     let node = c.loop-node.node in
     let pair = c.index.result.now in
     let within : node < pass.nodes.now.pairs.len = let l = c.loop-node-test.true in let e = c.len-node-end.ensures in omega arith in
     let named = pair_named pass c.requires.pass node pair.0 pair.1 (pair_there pass node pair within c.index.ensures) in
-    let front = expansion_front pass c.requires.pass named.0 c.fronts.result.now (c.fronts.ensures named.0 named.1) k there in
-    (front.0, front.1)
+    let expansion = expansion_front pass c.requires.pass named.0 c.expansions.result.now (c.expansions.ensures named.0 named.1) k there in
+    (expansion.0, expansion.1)
 
 pub walk_all-requires-clause-counted : goal.walk_all-requires-clause-counted
 walk_all-requires-clause-counted c = c.loop-node.invariant.listed
@@ -44,13 +44,13 @@ loop-node-preserved c =
     let pass = c.args.pass.now in
     let node = c.loop-node.node in
     let pair = c.index.result.now in
-    let fronts = c.fronts.result.now in
+    let expansions = c.expansions.result.now in
     let within : node < pass.nodes.now.pairs.len = let l = c.loop-node-test.true in let e = c.len-node-end.ensures in omega arith in
     let named = pair_named pass c.requires.pass node pair.0 pair.1 (pair_there pass node pair within c.index.ensures) in
-    let through = subst (λ (old : List ℕ). AddsThose (λ n. SomeFront pass fronts (λ q. GoesThrough pass pair.0 q n)) old c.walk_all.new.ends.items) c.new-ends.ensures.items c.in_ok-walk_all.ensures.through in
-    let over : WalksOver pass node pair.0 fronts [] c.walk_all.new.ends.items c.loop-node.lookback.items c.walk_all.new.lookback.items = record { through = through; noted = c.in_ok-walk_all.ensures.noted } in
+    let through = subst (λ (old : List ℕ). AddsThose (λ n. SomeExpansion pass expansions (λ q. GoesThrough pass pair.0 q n)) old c.walk_all.new.ends.items) c.new-ends.ensures.items c.in_ok-walk_all.ensures.through in
+    let over : WalksOver pass node pair.0 expansions [] c.walk_all.new.ends.items c.loop-node.lookback.items c.walk_all.new.lookback.items = record { through = through; noted = c.in_ok-walk_all.ensures.noted } in
     subst (λ (edges : List (Vec ℕ Global)). WalksFrom pass (node + 1) edges c.walk_all.new.lookback.items) (sym c.in_ok-push.ensures.items)
-    (from_more pass c.requires.pass node pair.0 named.0 fronts c.loop-node.edges.items c.walk_all.new.ends c.loop-node.lookback.items c.walk_all.new.lookback.items named.2 (c.fronts.ensures named.0 named.1) c.loop-node.invariant over)
+    (from_more pass c.requires.pass node pair.0 named.0 expansions c.loop-node.edges.items c.walk_all.new.ends c.loop-node.lookback.items c.walk_all.new.lookback.items named.2 (c.expansions.ensures named.0 named.1) c.loop-node.invariant over)
 
 -- after all nodes the walks from all nodes are done
 all_walked : (pass : Pass) (node count : ℕ) (edges : List (Vec ℕ Global)) (lookback : List (Vec (ℕ × ℕ) Global)) → count ≡ pass.nodes.now.pairs.len → count ≤ node → node ≤ count → WalksFrom pass node edges lookback → WalksFrom pass (length pass.nodes.now.pairs.items) edges lookback

@@ -1,4 +1,4 @@
-use Rattle.lalrpop_follow_sets.proofs.theory.follow_sets.FrontWalks.{WalksFrom}
+use Rattle.lalrpop_follow_sets.proofs.theory.follow_sets.ExpansionWalks.{WalksFrom}
 use Rattle.lalrpop_follow_sets.proofs.follow_sets.includes.includes.Given as goal
 
 abbrev pub invariant-loop-node : goal.invariant-loop-node

@@ -36,7 +36,7 @@ loop-state-preserved c =
     let count : length (take s states) ≡ s = length-take-le s states (let l = c.loop-state-test.true in omega arith) in
     let first : c.push.new.self.items ≡ firsts ++ length pairs ∷ [] = c.in_ok-push.ensures.items ∙ ap (λ (n : ℕ). firsts ++ n ∷ []) (let e = c.len.ensures in omega arith) in
     let pair : c.add_nodes.new.pairs.items ≡ pairs ++ nonterminals_of symbols (length (take s states)) state.edges.items = c.in_ok-add_nodes.ensures ∙ ap (λ (es : List (ℕ × ℕ)). pairs ++ nonterminals_of symbols s es) edges ∙ ap (λ (n : ℕ). pairs ++ nonterminals_of symbols n state.edges.items) (sym count) in
-    let made = Have-more symbols c.requires.symbols (take s states) state (c.requires.ascend s state at) firsts pairs c.loop-state.invariant in
+    let made = Have-more symbols c.requires.symbols (take s states) state firsts pairs c.loop-state.invariant in
     subst (λ (done : List ByNumbers). HaveNodes symbols done c.push.new.self.items c.add_nodes.new.pairs.items) (sym more)
     (subst (λ (ns : List ℕ). HaveNodes symbols (take s states ++ state ∷ []) ns c.add_nodes.new.pairs.items) (sym first)
     (subst (HaveNodes symbols (take s states ++ state ∷ []) (firsts ++ length pairs ∷ [])) (sym pair) made))

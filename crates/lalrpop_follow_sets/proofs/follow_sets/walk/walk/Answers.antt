@@ -11,36 +11,36 @@ use Rattle.lalrpop_follow_sets.proofs.follow_sets.walk.walk.Goals as goal
 -- the symbol over which the walk goes is the one after the dot
 pub step-requires-clause-behind : goal.step-requires-clause-behind
 step-requires-clause-behind c =
-    number_behind c.args.pass.now c.requires.pass c.args.from c.args.front c.args.ends.now.items c.loop-symbol.state c.loop-symbol.item c.loop-symbol.ends.items c.loop-symbol.invariant c.index.result.now c.index.ensures c.in-Some.symbol c.in-Some.is
+    number_behind c.args.pass.now c.requires.pass c.args.from c.args.expansion c.args.ends.now.items c.loop-symbol.state c.loop-symbol.item c.loop-symbol.ends.items c.loop-symbol.invariant c.index.result.now c.index.ensures c.in-Some.symbol c.in-Some.is
 
 pub loop-symbol-init : goal.loop-symbol-init
-loop-symbol-init c = walk_begins c.args.pass.now c.args.from c.args.front c.requires.front.0 c.args.ends.now.items c.requires.front.1 c.requires.listed
+loop-symbol-init c = walk_begins c.args.pass.now c.args.from c.args.expansion c.requires.expansion.0 c.args.ends.now.items c.requires.expansion.1 c.requires.listed
 
 pub returns-in_default-2-clause-through : goal.returns-in_default-2-clause-through
 returns-in_default-2-clause-through c = λ q begun.
     let pass = c.args.pass.now in
     let w = c.loop-symbol.invariant in
     let i : Dotted Nil = with_dot w.production w.dot in
-    let s = symbol_there pass c.requires.pass c.args.from c.args.front c.args.ends.now.items c.loop-symbol.state c.loop-symbol.item c.loop-symbol.ends.items w c.index.result.now c.index.ensures c.in-Some.symbol c.in-Some.is in
+    let s = symbol_there pass c.requires.pass c.args.from c.args.expansion c.args.ends.now.items c.loop-symbol.state c.loop-symbol.item c.loop-symbol.ends.items w c.index.result.now c.index.ensures c.in-Some.symbol c.in-Some.is in
     let gone = subst (IsGoneOver pass c.loop-symbol.state i) c.in_default-2.is (c.in_ok-target.ensures.over i w.numbered) in
-    subst (λ (p : OfGrammar). AddsThose (GoesThrough pass c.args.from p) c.args.ends.now.items c.step.new.ends.items) (one_front pass c.args.front w.production q w.begun begun)
-    (stopped_through pass c.requires.pass c.args.from c.args.front c.args.ends.now.items c.loop-symbol.state c.loop-symbol.item c.loop-symbol.ends.items w s.0 s.1 c.step.new.ends.items (c.in_ok-target.ensures.through i w.numbered) gone)
+    subst (λ (p : OfGrammar). AddsThose (GoesThrough pass c.args.from p) c.args.ends.now.items c.step.new.ends.items) (one_front pass c.args.expansion w.production q w.begun begun)
+    (stopped_through pass c.requires.pass c.args.from c.args.expansion c.args.ends.now.items c.loop-symbol.state c.loop-symbol.item c.loop-symbol.ends.items w s.0 s.1 c.step.new.ends.items (c.in_ok-target.ensures.through i w.numbered) gone)
 
 pub returns-in_default-2-clause-end : goal.returns-in_default-2-clause-end
 returns-in_default-2-clause-end c = λ q begun.
     let pass = c.args.pass.now in
     let w = c.loop-symbol.invariant in
     let i : Dotted Nil = with_dot w.production w.dot in
-    let s = symbol_there pass c.requires.pass c.args.from c.args.front c.args.ends.now.items c.loop-symbol.state c.loop-symbol.item c.loop-symbol.ends.items w c.index.result.now c.index.ensures c.in-Some.symbol c.in-Some.is in
+    let s = symbol_there pass c.requires.pass c.args.from c.args.expansion c.args.ends.now.items c.loop-symbol.state c.loop-symbol.item c.loop-symbol.ends.items w c.index.result.now c.index.ensures c.in-Some.symbol c.in-Some.is in
     let gone = subst (IsGoneOver pass c.loop-symbol.state i) c.in_default-2.is (c.in_ok-target.ensures.over i w.numbered) in
-    subst (λ (p : OfGrammar). IsEndOfWalk pass c.args.from p None) (one_front pass c.args.front w.production q w.begun begun)
-    (walk_stops pass c.requires.pass c.args.from c.args.front c.args.ends.now.items c.loop-symbol.state c.loop-symbol.item c.loop-symbol.ends.items w s.0 s.1 c.step.new.ends.items (c.in_ok-target.ensures.through i w.numbered) gone)
+    subst (λ (p : OfGrammar). IsEndOfWalk pass c.args.from p None) (one_front pass c.args.expansion w.production q w.begun begun)
+    (walk_stops pass c.requires.pass c.args.from c.args.expansion c.args.ends.now.items c.loop-symbol.state c.loop-symbol.item c.loop-symbol.ends.items w s.0 s.1 c.step.new.ends.items (c.in_ok-target.ensures.through i w.numbered) gone)
 
 pub overflow_add-item : goal.overflow_add-item
 overflow_add-item c =
     let pass = c.args.pass.now in
     let w = c.loop-symbol.invariant in
-    let s = symbol_there pass c.requires.pass c.args.from c.args.front c.args.ends.now.items c.loop-symbol.state c.loop-symbol.item c.loop-symbol.ends.items w c.index.result.now c.index.ensures c.in-Some.symbol c.in-Some.is in
+    let s = symbol_there pass c.requires.pass c.args.from c.args.expansion c.args.ends.now.items c.loop-symbol.state c.loop-symbol.item c.loop-symbol.ends.items w c.index.result.now c.index.ensures c.in-Some.symbol c.in-Some.is in
     let within = slice_get_within pass.numbers.now.items.items c.loop-symbol.item (with_dot w.production w.dot) w.numbered in
     let counted = pass.numbers.now.items.ok.0 in
     let room = pass.numbers.now.items.ok.1 in
@@ -58,22 +58,22 @@ loop-symbol-preserved c =
     let pass = c.args.pass.now in
     let w = c.loop-symbol.invariant in
     let i : Dotted Nil = with_dot w.production w.dot in
-    let s = symbol_there pass c.requires.pass c.args.from c.args.front c.args.ends.now.items c.loop-symbol.state c.loop-symbol.item c.loop-symbol.ends.items w c.index.result.now c.index.ensures c.in-Some.symbol c.in-Some.is in
+    let s = symbol_there pass c.requires.pass c.args.from c.args.expansion c.args.ends.now.items c.loop-symbol.state c.loop-symbol.item c.loop-symbol.ends.items w c.index.result.now c.index.ensures c.in-Some.symbol c.in-Some.is in
     let gone = subst (IsGoneOver pass c.loop-symbol.state i) c.in-Some-2.is (c.in_ok-target.ensures.over i w.numbered) in
-    walk_more pass c.requires.pass c.args.from c.args.front c.args.ends.now.items c.loop-symbol.state c.loop-symbol.item c.loop-symbol.ends.items w s.0 s.1 c.step.new.ends.items (c.in_ok-target.ensures.through i w.numbered) c.in-Some-2.target gone
+    walk_more pass c.requires.pass c.args.from c.args.expansion c.args.ends.now.items c.loop-symbol.state c.loop-symbol.item c.loop-symbol.ends.items w s.0 s.1 c.step.new.ends.items (c.in_ok-target.ensures.through i w.numbered) c.in-Some-2.target gone
 
 pub returns-clause-through : goal.returns-clause-through
 returns-clause-through c = λ q begun.
     let pass = c.args.pass.now in
     let w = c.loop-symbol.invariant in
-    let end = none_there pass c.requires.pass c.args.from c.args.front c.args.ends.now.items c.loop-symbol.state c.loop-symbol.item c.loop-symbol.ends.items w c.index.result.now c.index.ensures c.in_default.is in
-    subst (λ (p : OfGrammar). AddsThose (GoesThrough pass c.args.from p) c.args.ends.now.items c.loop-symbol.ends.items) (one_front pass c.args.front w.production q w.begun begun)
-    (ended_through pass c.requires.pass c.args.from c.args.front c.args.ends.now.items c.loop-symbol.state c.loop-symbol.item c.loop-symbol.ends.items w end)
+    let end = none_there pass c.requires.pass c.args.from c.args.expansion c.args.ends.now.items c.loop-symbol.state c.loop-symbol.item c.loop-symbol.ends.items w c.index.result.now c.index.ensures c.in_default.is in
+    subst (λ (p : OfGrammar). AddsThose (GoesThrough pass c.args.from p) c.args.ends.now.items c.loop-symbol.ends.items) (one_front pass c.args.expansion w.production q w.begun begun)
+    (ended_through pass c.requires.pass c.args.from c.args.expansion c.args.ends.now.items c.loop-symbol.state c.loop-symbol.item c.loop-symbol.ends.items w end)
 
 pub returns-clause-end : goal.returns-clause-end
 returns-clause-end c = λ q begun.
     let pass = c.args.pass.now in
     let w = c.loop-symbol.invariant in
-    let end = none_there pass c.requires.pass c.args.from c.args.front c.args.ends.now.items c.loop-symbol.state c.loop-symbol.item c.loop-symbol.ends.items w c.index.result.now c.index.ensures c.in_default.is in
-    subst (λ (p : OfGrammar). IsEndOfWalk pass c.args.from p (Some (c.loop-symbol.state, c.loop-symbol.item))) (one_front pass c.args.front w.production q w.begun begun)
-    (walk_ends pass c.requires.pass c.args.from c.args.front c.args.ends.now.items c.loop-symbol.state c.loop-symbol.item c.loop-symbol.ends.items w end)
+    let end = none_there pass c.requires.pass c.args.from c.args.expansion c.args.ends.now.items c.loop-symbol.state c.loop-symbol.item c.loop-symbol.ends.items w c.index.result.now c.index.ensures c.in_default.is in
+    subst (λ (p : OfGrammar). IsEndOfWalk pass c.args.from p (Some (c.loop-symbol.state, c.loop-symbol.item))) (one_front pass c.args.expansion w.production q w.begun begun)
+    (walk_ends pass c.requires.pass c.args.from c.args.expansion c.args.ends.now.items c.loop-symbol.state c.loop-symbol.item c.loop-symbol.ends.items w end)

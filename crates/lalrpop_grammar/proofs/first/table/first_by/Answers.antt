@@ -1,7 +1,7 @@
 use Rattle.std.proofs.Common.{◌≡◌, ℕ, IsSome, Some, None, Option, ◌∙◌, ap, refl, length}
 use Rattle.std.specs.Prelude.{IsNone}
 use Rattle.std.proofs.lemmas.Option.{slice_get_read}
-use Rattle.lalrpop_grammar.specs.first.FirstTables.{Gives}
+use Rattle.lalrpop_grammar.specs.first.FirstTables.{IsFirstBit}
 use Rattle.lalrpop_grammar.proofs.theory.first.FirstTables.{First-init, First-one, First-terminal, First-nonterminal, First-passed, First-stopped, First-end}
 use Rattle.lalrpop_grammar.proofs.first.table.first_by.Goals as goal
 
@@ -33,5 +33,5 @@ returns-then-not-branch c = First-stopped _ _ _ _ _ _ _ _ _ (First-nonterminal _
 
 pub returns : goal.returns
 returns c =
-    let G = Gives c.args.terminals.now c.args.table.now.entries in
+    let G = IsFirstBit c.args.terminals.now c.args.table.now.entries in
     First-one G _ _ _ _ _ _ c.loop-symbol.invariant (First-end G _ _ _ c.loop-symbol-test.false (λ bit. (λ g. g, λ g. g))) c.in_ok-insert_eof.ensures.inserted

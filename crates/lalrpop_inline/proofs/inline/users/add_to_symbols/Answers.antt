@@ -5,7 +5,8 @@ use Rattle.lalrpop_inline.proofs.Types.{Symbol}
 use Rattle.lalrpop_grammar.specs.declared.repr.Symbol.TheVariants.{Nonterminal}
 use Rattle.lalrpop_collections.proofs.theory.lists.Lists.{contains-nil}
 use Rattle.lalrpop_inline.specs.Words.{KeepsUsers}
-use Rattle.lalrpop_inline.proofs.theory.inlining.InlineUsers.{UserMap, IsUnderSymbols, symbol_added, symbol_passed, keeps_twice}
+use Rattle.lalrpop_inline.proofs.theory.inlining.InlineUsers.{IsUnderSymbols, symbol_added, symbol_passed, keeps_twice}
+use Rattle.lalrpop_grammar.specs.grammars.Entries.{UserMap}
 use Rattle.lalrpop_inline.proofs.inline.users.add_to_symbols.Goals.{in-Nonterminal+in_ok-add_user, in_default}
 use Rattle.lalrpop_inline.proofs.inline.users.add_to_symbols.Goals as goal
 

@@ -3,7 +3,7 @@ ghost use Rattle.std.specs.Prelude.{◌≡◌, ◌<◌, ℕ, length, slice_get, 
 ghost use Rattle.lalrpop_lanes.specs.Words.{AreDisjoint};
 ghost use Rattle.lalrpop_base.specs.Words.{retargeted_all};
 ghost use Rattle.lalrpop_lanes.specs.lane_tables.LaneTables.{ColumnsOverlap, HasRow, IsRow, RowOverlaps};
-ghost use Rattle.lalrpop_lane_states.specs.merges.Merges.{Advances, AreTargetsAmong, HaveNoNewMarks, IsFresh, IsLimit, IsLonger, IsMergeError, IsMerging, IsPushed, IsRelinked, IsTaken, IsWalked, KeepsStates, replaced};
+ghost use Rattle.lalrpop_lane_states.specs.merges.Merges.{Advances, AreTargetsAmong, HaveNoNewMarks, IsFreshCopy, IsCopyLimit, IsLonger, IsMergeError, IsMerging, IsPushed, IsRelinked, IsTaken, HasOriginalRow, KeepsStates, replaced_number};
 ghost use Rattle.lalrpop_state_graph.specs.graphs.Copies.{index as index_of};
 ghost use Rattle.lalrpop_lane_states.specs.merges.StateSets.{context_of};
 
@@ -48,7 +48,8 @@ fn replace_targets<K: Ord + Drop>(
     old: StateIndex,
     new: StateIndex,
 )
-    ensures { targets.new.entries ≡ retargeted_all (replaced old.0 new.0) targets.old.entries }
+    ensures { targets.new.entries ≡
+        retargeted_all (replaced_number old.0 new.0) targets.old.entries }
 {
     targets.retain(|_, target| {
         if *target == old {
@@ -87,9 +88,9 @@ impl<'table, 'grammar> Merge<'table, 'grammar> {
         requires overlap { ColumnsOverlap self.old.table.now }
         ensures advances { Advances self.old self.new }
         ensures marks { HaveNoNewMarks self.old self.new }
-        ensures copied { IfOk result (λ copy. IsFresh state copy self.old self.new) }
+        ensures copied { IfOk result (λ copy. IsFreshCopy state copy self.old self.new) }
         ensures error { IfErr result (IsMergeError self.new) }
-        ensures limit { IfErr result (IsLimit self.old) }
+        ensures limit { IfErr result (IsCopyLimit self.old) }
         ensures kept { KeepsStates self.old self.new }
     {
         if self.copies_left == 0 {
@@ -113,7 +114,7 @@ impl<'table, 'grammar> Merge<'table, 'grammar> {
         cloned_successor: StateIndex,
     )
         requires ready { IsMerging self.old }
-        requires walked { IsWalked self.old predecessor }
+        requires walked { HasOriginalRow self.old predecessor }
         requires own { slice_get self.old.originals.items original_successor.0 ≡ Some
             original_successor.0 }
         requires copy { slice_get self.old.originals.items cloned_successor.0 ≡ Some

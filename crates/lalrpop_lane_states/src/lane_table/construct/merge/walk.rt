@@ -3,7 +3,7 @@ ghost use Rattle.std.specs.Prelude.{◌≡◌, ◌≤◌, ◌<◌, ◌++◌, len
 ghost use Rattle.std.specs.BTreeSet.{IsOrdered};
 ghost use Rattle.lalrpop_lanes.specs.lane_tables.LaneTables.{ColumnsOverlap};
 ghost use Rattle.lalrpop_lane_states.specs.merges.MergeWalks.{ComesTo, joins_to, most_joins};
-ghost use Rattle.lalrpop_lane_states.specs.merges.Merges.{Advances, AreUnited, CannotJoin, HasWalked, HaveNoNewMarks, IsApartIfNone, IsJoinedCopy, IsJoinedIfAny, IsLimit, IsLinked, IsMergeError, IsMerging, IsRefusedJoin, IsWalked, KeepsStates, LeadsTo, unvisited};
+ghost use Rattle.lalrpop_lane_states.specs.merges.Merges.{Advances, AreUnited, CannotJoin, HasWalked, HaveNoNewMarks, IsApartIfNone, IsJoinedCopy, IsJoinedIfAny, IsCopyLimit, IsLinked, IsMergeError, IsMerging, IsRefusedJoin, HasOriginalRow, KeepsStates, OriginalLeadsTo, unvisited};
 ghost use Rattle.lalrpop_state_graph.specs.graphs.Copies.{index as index_of};
 ghost use Rattle.lalrpop_state_graph.specs.graphs.StateGraph.{state_cmp};
 
@@ -57,8 +57,8 @@ impl<'table, 'grammar> Merge<'table, 'grammar> {
         target: StateIndex,
     ) -> Result<bool, OutOfMemory>
         requires ready { IsMerging self.old }
-        requires source { IsWalked self.old source }
-        requires target { IsWalked self.old target }
+        requires source { HasOriginalRow self.old source }
+        requires target { HasOriginalRow self.old target }
         ensures advances { Advances self.old self.new }
         ensures marks { HaveNoNewMarks self.old self.new }
         ensures united { IfOk result (λ united. AreUnited united source target self.old self.new) }
@@ -77,8 +77,8 @@ impl<'table, 'grammar> Merge<'table, 'grammar> {
         index: usize,
     ) -> Result<bool, OutOfMemory>
         requires ready { IsMerging self.old }
-        requires walked { IsWalked self.old state }
-        requires leads { LeadsTo self.old state successor }
+        requires walked { HasOriginalRow self.old state }
+        requires leads { OriginalLeadsTo self.old state successor }
         requires there { index < length self.old.originals.items }
         ensures advances { Advances self.old self.new }
         ensures marks { HaveNoNewMarks self.old self.new }
@@ -103,8 +103,8 @@ impl<'table, 'grammar> Merge<'table, 'grammar> {
         successor: StateIndex,
     ) -> Result<Option<StateIndex>, OutOfMemory>
         requires ready { IsMerging self.old }
-        requires walked { IsWalked self.old state }
-        requires leads { LeadsTo self.old state successor }
+        requires walked { HasOriginalRow self.old state }
+        requires leads { OriginalLeadsTo self.old state successor }
         ensures advances { Advances self.old self.new }
         ensures marks { HaveNoNewMarks self.old self.new }
         ensures joined { IfOk result (IsJoinedIfAny state successor self.new) }
@@ -129,15 +129,15 @@ impl<'table, 'grammar> Merge<'table, 'grammar> {
         successor: StateIndex,
     ) -> Result<StateIndex, MergeError>
         requires ready { IsMerging self.old }
-        requires walked { IsWalked self.old state }
-        requires leads { LeadsTo self.old state successor }
+        requires walked { HasOriginalRow self.old state }
+        requires leads { OriginalLeadsTo self.old state successor }
         requires overlap { ColumnsOverlap self.old.table.now }
         ensures advances { Advances self.old self.new }
         ensures marks { HaveNoNewMarks self.old self.new }
         ensures joined { IfOk result (λ copy. IsJoinedCopy state successor copy self.new) }
         ensures fewer { OnOk result (unvisited self.new ≤ unvisited self.old) }
         ensures error { IfErr result (IsMergeError self.new) }
-        ensures limit { IfErr result (IsLimit self.old) }
+        ensures limit { IfErr result (IsCopyLimit self.old) }
         ensures kept { KeepsStates self.old self.new }
     {
         let copy = self.copy_state(alloc, successor)?;
@@ -155,15 +155,15 @@ impl<'table, 'grammar> Merge<'table, 'grammar> {
         successor: StateIndex,
     ) -> Result<StateIndex, MergeError>
         requires ready { IsMerging self.old }
-        requires walked { IsWalked self.old state }
-        requires leads { LeadsTo self.old state successor }
+        requires walked { HasOriginalRow self.old state }
+        requires leads { OriginalLeadsTo self.old state successor }
         requires overlap { ColumnsOverlap self.old.table.now }
         ensures advances { Advances self.old self.new }
         ensures marks { HaveNoNewMarks self.old self.new }
         ensures joined { IfOk result (λ copy. IsJoinedCopy state successor copy self.new) }
         ensures fewer { OnOk result (unvisited self.new ≤ unvisited self.old) }
         ensures error { IfErr result (IsMergeError self.new) }
-        ensures limit { IfErr result (IsLimit self.old) }
+        ensures limit { IfErr result (IsCopyLimit self.old) }
         ensures kept { KeepsStates self.old self.new }
         ensures refused { IfErr result (IsRefusedJoin self.old state successor) }
     {
@@ -182,14 +182,14 @@ impl<'table, 'grammar> Merge<'table, 'grammar> {
         successor: StateIndex,
     ) -> Result<StateIndex, MergeError>
         requires ready { IsMerging self.old }
-        requires walked { IsWalked self.old state }
-        requires leads { LeadsTo self.old state successor }
+        requires walked { HasOriginalRow self.old state }
+        requires leads { OriginalLeadsTo self.old state successor }
         ensures advances { Advances self.old self.new }
         ensures marks { HaveNoNewMarks self.old self.new }
         ensures joined { IfOk result (λ copy. IsJoinedCopy state successor copy self.new) }
         ensures fewer { OnOk result (unvisited self.new ≤ unvisited self.old) }
         ensures error { IfErr result (IsMergeError self.new) }
-        ensures limit { IfErr result (IsLimit self.old) }
+        ensures limit { IfErr result (IsCopyLimit self.old) }
         ensures linked { IfOk result (λ copy. IsLinked state.0 successor.0 copy.0
             self.old.states.items self.new.states.items) }
         ensures refused { IfErr result (IsRefusedJoin self.old state successor) }
@@ -206,7 +206,7 @@ impl<'table, 'grammar> Merge<'table, 'grammar> {
     // are appended to those that are pending.
     fn come_to(&mut self, state: StateIndex, pending: &mut Vec<Join>) -> Result<(), OutOfMemory>
         requires ready { IsMerging self.old }
-        requires walked { IsWalked self.old state }
+        requires walked { HasOriginalRow self.old state }
         ensures advances { Advances self.old self.new }
         ensures came { OnOk result
             (ComesTo state self.old self.new pending.old.items pending.new.items) }
@@ -230,7 +230,7 @@ impl<'table, 'grammar> Merge<'table, 'grammar> {
     /// visited before. A list keeps the joins still to be made, so a long walk takes no stack.
     pub(super) fn walk(&mut self, alloc: Global, state: StateIndex) -> Result<(), MergeError>
         requires ready { IsMerging self.old }
-        requires walked { IsWalked self.old state }
+        requires walked { HasOriginalRow self.old state }
         ensures advances { Advances self.old self.new }
         ensures walked { OnOk result (HasWalked state self.old self.new) }
         ensures fewer { OnOk result (unvisited self.new ≤ unvisited self.old) }

@@ -1,11 +1,11 @@
-use Rattle.std.proofs.Common.{◌∙◌, ℕ, List, subst, sym}
+use Rattle.std.proofs.Common.{ℕ, List, subst, sym}
 use Rattle.std.specs.Prelude.{Contains, Option}
 use Rattle.lalrpop_states.specs.Words.{Dotted}
 use Rattle.lalrpop_grammar.specs.Words.{Rules, rules_of}
-use Rattle.lalrpop_numbers.specs.Words.{AreAllExpansions, AreNumbersBehind, lists_of, AreBehindDots, AreRests}
+use Rattle.lalrpop_numbers.specs.Words.{AreAllExpansions, AreNumbersBehind, lists_of, AreBehindDots, AreSuffixes}
 use Rattle.lalrpop_numbers.proofs.Types.{Nil, Symbol}
 use Rattle.lalrpop_grammar.proofs.theory.grammars.Grammars.{known_symbols}
-use Rattle.lalrpop_numbers.proofs.theory.numbers.Numbering.{lists_length, symbols_differ}
+use Rattle.lalrpop_numbers.proofs.theory.numbers.Numbering.{symbols_differ}
 use Rattle.lalrpop_numbers.proofs.numbers.Numbers.new.Goals as goal
 
 pub numbers_behind-requires-clause-known : goal.numbers_behind-requires-clause-known
@@ -13,8 +13,8 @@ numbers_behind-requires-clause-known c =
     let items = subst (λ (l : List (Dotted Nil)). AreBehindDots l c.in_ok-symbols.symbols.items) c.deref.ensures.value c.in_ok-symbols.ensures.behind in
     subst (AreBehindDots c.deref-3.result.now) (sym c.deref-2.ensures.value) (subst (λ (l : List (Dotted Nil)). AreBehindDots l c.in_ok-symbols.symbols.items) (sym c.deref-3.ensures.value) items)
 
-pub rests_of-requires-clause-known : goal.rests_of-requires-clause-known
-rests_of-requires-clause-known c i among = known_symbols c.args.grammar.now i.production c.requires.well_formed (c.in_ok-items.ensures.items.each i (subst (λ (l : List (Dotted Nil)). Contains l i) c.deref-6.ensures.value among)).0
+pub suffixes_of-requires-clause-known : goal.suffixes_of-requires-clause-known
+suffixes_of-requires-clause-known c i among = known_symbols c.args.grammar.now i.production c.requires.well_formed (c.in_ok-items.ensures.items.each i (subst (λ (l : List (Dotted Nil)). Contains l i) c.deref-6.ensures.value among)).0
 
 pub returns : goal.returns
 returns c =
@@ -26,12 +26,10 @@ returns c =
     record {
       items = c.in_ok-items.ensures.items;
       next = c.in_ok-items.ensures.next;
-      counted = behind.counted;
       behind = behind.each;
       differ = symbols_differ symbols c.in_ok-symbols.ensures.ascend;
       symbols = subst (λ (l : List (Dotted Nil)). AreBehindDots l symbols) c.deref.ensures.value c.in_ok-symbols.ensures.behind;
       symbols_ascend = c.in_ok-symbols.ensures.ascend;
-      expanded = sym (lists_length c.in_ok-expansions.expansions.items) ∙ expanded.counted;
       expansions = expanded.each;
-      rests = subst (λ (l : List (Dotted Nil)). AreRests (rules_of c.args.grammar.now) l c.in_ok-rests.rests.items) c.deref-6.ensures.value (subst (λ (r : Rules). AreRests r c.deref-6.result.now c.in_ok-rests.rests.items) c.requires.firsts c.in_ok-rests.ensures);
+      suffixes = subst (λ (l : List (Dotted Nil)). AreSuffixes (rules_of c.args.grammar.now) l c.in_ok-suffixes.suffixes.items) c.deref-6.ensures.value (subst (λ (r : Rules). AreSuffixes r c.deref-6.result.now c.in_ok-suffixes.suffixes.items) c.requires.firsts c.in_ok-suffixes.ensures);
     }

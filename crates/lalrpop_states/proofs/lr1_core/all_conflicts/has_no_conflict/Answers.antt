@@ -1,7 +1,7 @@
 use Rattle.std.proofs.Common.{◌↔◌, ℕ, List, arith, eqb-true, refl, subst, sym, ◌∙◌}
 use Rattle.std.proofs.lemmas.List.{nil_from_length}
 use Rattle.std.specs.Prelude.{IsTrue, MatchOption, Option, vec_len}
-use Rattle.lalrpop_states.specs.conflicts.StateConflicts.{Reduction}
+use Rattle.lalrpop_states.specs.conflicts.StateConflicts.{StateReduction}
 use Rattle.lalrpop_collections.specs.Words.{Bits, has}
 use Rattle.lalrpop_states.specs.conflicts.HeldShifts.{IsHeldBit, ShareNoBit}
 use Rattle.lalrpop_states.proofs.theory.conflicts.FreeStates.{free_shifts, nothing_reduced_free, state_free}
@@ -15,12 +15,12 @@ returns-then-is_empty c =
 
 pub returns : goal.returns
 returns c =
-    let rs : List Reduction = c.deref.result.now in
+    let rs : List StateReduction = c.deref.result.now in
     let terminals = c.args.terminals.now in
     let state = c.args.state.now in
-    let Told : List Reduction → Bits → Type 0 = λ qs held. ShareNoBit qs × ((bit : ℕ) → IsTrue (has held bit) ↔ IsHeldBit qs bit) in
+    let Told : List StateReduction → Bits → Type 0 = λ qs held. ShareNoBit qs × ((bit : ℕ) → IsTrue (has held bit) ↔ IsHeldBit qs bit) in
     let told : Told rs c.in-Some.held = subst (λ (o : Option Bits). MatchOption o (¬ ShareNoBit rs) (Told rs)) c.in-Some.is c.in_ok-held.ensures in
-    let here = subst (λ (qs : List Reduction). Told qs c.in-Some.held) c.deref.ensures.value told in (
+    let here = subst (λ (qs : List StateReduction). Told qs c.in-Some.held) c.deref.ensures.value told in (
       λ h. state_free terminals state c.all-all.ensures.distinct c.in-Some.held here.1 here.0 (c.in_ok-free.ensures.0 h),
       λ free. c.in_ok-free.ensures.1 (free_shifts terminals state c.all-all.ensures.distinct c.in-Some.held here.1 free),
     )

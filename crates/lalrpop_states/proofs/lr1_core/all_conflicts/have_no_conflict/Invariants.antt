@@ -1,7 +1,7 @@
-use Rattle.lalrpop_states.specs.conflicts.StateConflicts.{HasNoConflict}
+use Rattle.lalrpop_states.specs.conflicts.StateConflicts.{IsConflictFree}
 use Rattle.lalrpop_collections.specs.Words.{Bits, EachBelow}
 use Rattle.lalrpop_states.proofs.Types.{State}
 use Rattle.lalrpop_states.proofs.lr1_core.all_conflicts.have_no_conflict.Given as goal
 
 abbrev pub invariant-loop-state : goal.invariant-loop-state
-invariant-loop-state l = EachBelow (λ (s : State Bits). HasNoConflict l.terminals s) l.states l.state-index
+invariant-loop-state l = EachBelow (λ (s : State Bits). IsConflictFree l.terminals s) l.states l.state-index

@@ -1,5 +1,5 @@
 use Rattle.std.proofs.Common.{refl}
-use Rattle.lalrpop_states.specs.Words.{Edge, IsCoherentStep}
+use Rattle.lalrpop_states.specs.Words.{StateEdge, IsCoherentStep}
 use Rattle.lalrpop_states.proofs.theory.states.EdgeLemmas.{each_edge, each_goto, each_shift}
 use Rattle.lalrpop_states.proofs.lr1_core.coherent.is_coherent_state.Goals as goal
 
@@ -11,13 +11,13 @@ pub returns-then-not-have_coherent_edges : goal.returns-then-not-have_coherent_e
 returns-then-not-have_coherent_edges g c = (
   λ h. cc,
   λ right. c.if-not-have_coherent_edges.ensures.1 (rw c.as_slice-items.ensures.value
-      (each_edge (λ (edge : Edge). IsCoherentStep c.args.states.now c.args.state.now.items.vec.items edge.0 edge.1.0) c.args.state.now.shifts.entries c.args.state.now.gotos.entries right.shifts right.gotos)),
+      (each_edge (λ (edge : StateEdge). IsCoherentStep c.args.states.now c.args.state.now.items.vec.items edge.0 edge.1.0) c.args.state.now.shifts.entries c.args.state.now.gotos.entries right.shifts right.gotos)),
 )
 
 pub returns : goal.returns
 returns g c =
     let state = c.args.state.now in
-    let Came = λ (edge : Edge). IsCoherentStep c.args.states.now state.items.vec.items edge.0 edge.1.0 in (
+    let Came = λ (edge : StateEdge). IsCoherentStep c.args.states.now state.items.vec.items edge.0 edge.1.0 in (
       λ h. record {
         numbered = c.if-state-place.false;
         start = rw (← c.as_slice-items.ensures.value) (c.if-not-starts_right.ensures.0 refl);

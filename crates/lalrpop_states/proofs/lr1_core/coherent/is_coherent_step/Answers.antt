@@ -1,13 +1,13 @@
 use Rattle.std.proofs.Common.{refl, subst}
 use Rattle.std.proofs.lemmas.Option.{slice_get_read}
 use Rattle.lalrpop_states.proofs.Types.{State}
-use Rattle.lalrpop_states.specs.Words.{IsCoherentEdge, symbol_of}
+use Rattle.lalrpop_states.specs.Words.{IsCoherentEdge, symbol_of_ref}
 use Rattle.lalrpop_collections.proofs.theory.lists.EachLemmas.{same_at}
 use Rattle.lalrpop_states.proofs.lr1_core.coherent.is_coherent_step.Goals as goal
 
 pub returns : goal.returns
 returns g c =
-    let edge = λ (to : State g.row.L.Denot). IsCoherentEdge c.args.source.now (symbol_of c.args.symbol) to.items.vec.items in (
+    let edge = λ (to : State g.row.L.Denot). IsCoherentEdge c.args.source.now (symbol_of_ref c.args.symbol) to.items.vec.items in (
       λ h. record {
         to = c.index-states-target.result;
         there = slice_get_read _ _ _ _ refl c.if-target-states.false c.index-states-target.is;

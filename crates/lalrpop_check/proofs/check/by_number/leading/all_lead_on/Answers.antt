@@ -3,11 +3,8 @@ use Rattle.lalrpop_collections.proofs.theory.lists.EachLemmas.{each_below_more, 
 use Rattle.lalrpop_collections.proofs.theory.lists.Places.{slice_get_at}
 use Rattle.lalrpop_check.proofs.check.by_number.leading.all_lead_on.Goals as goal
 
-pub lead_on-requires-clause-ascend : goal.lead_on-requires-clause-ascend
-lead_on-requires-clause-ascend c = c.requires.ascend c.loop-state.state-index c.state-item.result (slice_get_at c.args.states.now c.loop-state.state-index c.state-item.result c.loop-state-test.true c.state-item.is)
-
-pub lead_on-requires-clause-known : goal.lead_on-requires-clause-known
-lead_on-requires-clause-known c k among = c.requires.known c.loop-state.state-index k c.state-item.result (slice_get_at c.args.states.now c.loop-state.state-index c.state-item.result c.loop-state-test.true c.state-item.is) among
+pub lead_on-requires : goal.lead_on-requires
+lead_on-requires c k among = c.requires c.loop-state.state-index k c.state-item.result (slice_get_at c.args.states.now c.loop-state.state-index c.state-item.result c.loop-state-test.true c.state-item.is) among
 
 pub loop-state-preserved : goal.loop-state-preserved
 loop-state-preserved c = each_below_more _ _ _ _ c.loop-state-test.true c.state-item.is (c.if-not-lead_on.ensures refl) c.loop-state.invariant

@@ -10,7 +10,7 @@ pub leads_on-requires-clause-known : goal.leads_on-requires-clause-known
 leads_on-requires-clause-known c =
     let items : List ℕ = c.deref-item-items.result.now in
     let item = get_or items c.loop-item.item-index 0 in
-    c.requires.known item (subst (λ (ks : List ℕ). Contains ks item) c.deref-item-items.ensures.value (Contains-get_or items c.loop-item.item-index 0 c.loop-item-test.true))
+    c.requires item (subst (λ (ks : List ℕ). Contains ks item) c.deref-item-items.ensures.value (Contains-get_or items c.loop-item.item-index 0 c.loop-item-test.true))
 
 pub loop-item-preserved : goal.loop-item-preserved
 loop-item-preserved c =

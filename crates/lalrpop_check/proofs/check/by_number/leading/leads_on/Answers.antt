@@ -8,14 +8,14 @@ use Rattle.lalrpop_check.proofs.check.by_number.leading.leads_on.Goals as goal
 
 pub returns-in_default : goal.returns-in_default
 returns-in_default c = λ h x at.
-    let counted = c.requires.numbers.1.counted in
+    let counted = c.args.numbers.now.counted in
     let here = slice_get_at c.args.numbers.now.behind.items c.args.item c.index.result.now (omega (arith, c.requires.known, counted)) c.index.ensures in
     let none = same_some (Some x) None (sym at ∙ here ∙ ap Some c.in_default.is) in
     absurd (cc)
 
 pub returns : goal.returns
 returns c = λ h x at.
-    let counted = c.requires.numbers.1.counted in
+    let counted = c.args.numbers.now.counted in
     let edges : List (ℕ × ℕ) = c.args.edges.now in
     let place = c.in-Some-place_of.place in
     let here = slice_get_at c.args.numbers.now.behind.items c.args.item c.index.result.now (omega (arith, c.requires.known, counted)) c.index.ensures in

@@ -19,9 +19,6 @@ kernel_of-requires-clause-start c =
     subst (λ (kernel : List (Numbered Nil)). IsKernelOf c.args.lr.now.construction c.args.numbers.now 0 kernel) (sym c.as_slice.ensures)
     (start_kernel c.args.lr.now.construction c.args.numbers.now c.in_ok-start.start g c.grammar-grammar.ensures.rules c.grammar-grammar.ensures.first c.grammar-grammar.ensures.well_formed own c.in_ok-start.ensures.known c.in_ok-start.ensures.items c.in_ok-start.ensures.kernel)
 
-pub add_moves-requires : goal.add_moves-requires
-add_moves-requires c = (subst (λ (o : Option NumberedState). IfSome o (λ (new : NumberedState). IsListedOver c.args.numbers.now new.items.items c.state-item.result new)) c.in-Some-2.is c.in_ok-new.ensures.listed).numbered.ascend
-
 pub loop-state-preserved : goal.loop-state-preserved
 loop-state-preserved c =
     let n = c.args.numbers.now in

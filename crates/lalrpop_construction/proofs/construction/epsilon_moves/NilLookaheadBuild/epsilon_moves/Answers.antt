@@ -5,9 +5,9 @@ use Rattle.lalrpop_construction.proofs.construction.epsilon_moves.NilLookaheadBu
 
 pub returns : goal.returns
 returns c = record {
-  moves = IfOk-weaker c.begun_items.result _ _ (λ items begun. record {
+  moves = IfOk-weaker c.items_at_start.result _ _ (λ items begun. record {
     given = c.args.lookahead.now;
     begun = begun;
     is = record { fits = λ f. f; holds = λ t. (λ h. absurd (holds_none c.args.lr.now.construction.rules.terminals t h), λ h. elim h [ inl n ↦ absurd n | inr n ↦ absurd n.0 ]) };
-  }) c.begun_items.ensures;
+  }) c.items_at_start.ensures;
 }

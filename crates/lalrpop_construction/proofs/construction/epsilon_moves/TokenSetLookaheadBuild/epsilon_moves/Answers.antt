@@ -11,9 +11,9 @@ returns c =
     let first : IsFirstSetBefore rules c.args.remainder.now c.args.lookahead.now c.in_ok-given.given = rw same at c.in_ok-given.ensures.first in
     let fits : FitsTokens rules.terminals c.args.lookahead.now → FitsTokens rules.terminals c.in_ok-given.given = rw same at c.in_ok-given.ensures.fits in
     let known = known_by_rules c.grammar-grammar.result.now rules c.grammar-grammar.ensures.rules c.grammar-grammar.ensures.well_formed in
-    let given = IfOk-weaker c.begun_items.result _ _ (λ items begun. record {
+    let given = IfOk-weaker c.items_at_start.result _ _ (λ items begun. record {
       given = c.in_ok-given.given;
       begun = begun;
       is = record { fits = fits; holds = First-holds rules known c.args.remainder.now c.requires.known c.args.lookahead.now c.in_ok-given.given first };
-    }) c.begun_items.ensures in
+    }) c.items_at_start.ensures in
     record { moves = given }

@@ -18,9 +18,9 @@ returns c =
     let nullable : c.contains_eof-nullable.result ≡ has c.in_ok-first.first (length rules.terminals) = c.contains_eof-nullable.ensures ∙ ap (λ (r : Rules). has c.in_ok-first.first (length r.terminals)) same in
     let known : (p : Production) → Contains rules.productions p → HasKnownTerminals rules.terminals p.symbols = λ p among.
     subst (λ (r : Rules). HasKnownTerminals r.terminals p.symbols) same (known_symbols c.grammar-grammar.result.now p c.grammar-grammar.ensures.well_formed (subst (λ (r : Rules). Contains r.productions p) (sym same) among)) in
-    let moves = IfOk-weaker c.begun_items.result _ _ (λ items begun. record {
+    let moves = IfOk-weaker c.items_at_start.result _ _ (λ items begun. record {
       given = c.followed-given.result;
       begun = begun;
       is = record { fits = Word-fits rules differ c.args.remainder.now c.in_ok-first.first first c.in_ok-word.word c.args.lookahead.now word c.followed-given.result c.contains_eof-nullable.result c.followed-given.ensures; holds = Word-holds rules differ c.args.remainder.now c.in_ok-first.first first c.in_ok-word.word c.args.lookahead.now word (low_bit rules known c.args.remainder.now c.requires.known) c.followed-given.result c.contains_eof-nullable.result nullable c.followed-given.ensures };
-    }) c.begun_items.ensures in
+    }) c.items_at_start.ensures in
     record { moves = moves }

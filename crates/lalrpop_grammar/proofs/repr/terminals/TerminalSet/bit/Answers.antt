@@ -1,6 +1,6 @@
 use Rattle.std.specs.BTreeMap.{BTreeMap}
 use Rattle.lalrpop_grammar.proofs.Types.{TerminalString}
-use Rattle.lalrpop_grammar.specs.Words.{HasPlaces, ArePlaced}
+use Rattle.lalrpop_grammar.specs.Words.{HasPlaces, AreTerminalPlaces}
 use Rattle.lalrpop_grammar.proofs.theory.grammars.TerminalPlaces.{place_found, place_only}
 use Rattle.std.proofs.lemmas.Option.{slice_get_read}
 use Rattle.std.specs.Prelude.{Option, IsNone}
@@ -8,7 +8,7 @@ use mathlib.Core.Bool.{true≢false}
 use Rattle.std.proofs.Common.{ℕ, ◌≡◌, refl, sym, ◌∙◌, subst, length, List}
 use Rattle.lalrpop_grammar.proofs.repr.terminals.TerminalSet.bit.Goals as goal
 
-placed : (xs ys : List TerminalString) (m : BTreeMap TerminalString ℕ) → ArePlaced xs m → xs ≡ ys → HasPlaces ys (length ys) m
+placed : (xs ys : List TerminalString) (m : BTreeMap TerminalString ℕ) → AreTerminalPlaces xs m → xs ≡ ys → HasPlaces ys (length ys) m
 placed xs ys m h e = subst (λ (zs : List TerminalString). HasPlaces zs (length zs) m) e h.placed
 
 pub returns-clause-found : goal.returns-clause-found

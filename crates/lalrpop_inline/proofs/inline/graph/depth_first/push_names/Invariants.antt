@@ -1,7 +1,7 @@
 use Rattle.std.proofs.Common.{◌≡◌, ◌++◌, take}
 use Rattle.std.specs.List.{flat_map}
-use Rattle.lalrpop_inline.specs.Words.{names_of}
+use Rattle.lalrpop_inline.specs.Words.{nonterminal_names}
 use Rattle.lalrpop_inline.proofs.inline.graph.depth_first.push_names.Given as goal
 
 abbrev pub invariant-loop-symbol : goal.invariant-loop-symbol
-invariant-loop-symbol l = l.names.items ≡ l.initial.names.items ++ flat_map names_of (take l.symbol-index l.symbols)
+invariant-loop-symbol l = l.names.items ≡ l.initial.names.items ++ flat_map nonterminal_names (take l.symbol-index l.symbols)

@@ -3,7 +3,7 @@ use Rattle.std.proofs.lemmas.List.{reverse-append}
 use Rattle.lalrpop_inline.proofs.Types.{NonterminalString}
 use Rattle.lalrpop_inline.specs.declared.inline.graph.depth_first.Frame.{Frame}
 use Rattle.lalrpop_inline.specs.declared.inline.graph.depth_first.Walk.{Walk}
-use Rattle.lalrpop_inline.specs.Words.{ComesBack, ComesBackFrom, GoesPast, IsFrame, HasFrames, IsEntered, IsInside, IsNewest, LeadsBack, names_on, with_next}
+use Rattle.lalrpop_inline.specs.Words.{ComesBack, ComesBackFrom, GoesPast, IsFrame, HasFrames, IsEntered, IsInside, IsNewest, ComesBackToAllOf, names_on, with_next}
 use Rattle.lalrpop_inline.proofs.theory.inlining.InlineMeetings.{back_into, back_out, named_by, new as comes_into}
 use Rattle.lalrpop_inline.proofs.theory.inlining.InlineFrames.{lead_to, gone_on, left_walk}
 use Rattle.lalrpop_inline.proofs.inline.graph.depth_first.step.Goals as goal
@@ -60,7 +60,7 @@ returns-in-Some-clause-back c =
     let past : GoesPast g path w.order.items (reverse f.others.items) (name ∷ reverse on.others.items) =
     subst (λ (o : Option NonterminalString). GoesPast g path w.order.items (reverse f.others.items) (with_next o (reverse on.others.items))) c.in-Some.is (c.in_ok-name.ensures.past path within) in
     let is : IsEntered g path w.order.items name = comes_into g w path name c.requires.walk within (c.in_ok-name.ensures.next.pending name c.in-Some.is) in
-    subst (LeadsBack g (f ∷ reverse fs) w.order.items (reverse c.enter.new.frames.items)) (sym c.in_ok-enter.ensures.order) (back_into g f on (reverse fs) (reverse c.enter.new.frames.items) name w.order.items c.in_ok-name.ensures.name newest is past)
+    subst (ComesBackToAllOf g (f ∷ reverse fs) w.order.items (reverse c.enter.new.frames.items)) (sym c.in_ok-enter.ensures.order) (back_into g f on (reverse fs) (reverse c.enter.new.frames.items) name w.order.items c.in_ok-name.ensures.name newest is past)
 
 pub returns-clause-back : goal.returns-clause-back
 returns-clause-back c =

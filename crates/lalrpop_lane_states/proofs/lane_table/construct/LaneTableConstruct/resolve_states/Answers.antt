@@ -1,7 +1,7 @@
 use Rattle.std.proofs.Common.{List, arith, length, sym, subst}
 use Rattle.lalrpop_base.specs.Words.{Bits, AreClosed, AreCoherent, productions, rules_of}
 use Rattle.lalrpop_lane_states.proofs.Types.{State}
-use Rattle.lalrpop_follow_sets.specs.follow_sets.FollowNodes.{AreAllReached, AreOfGrammar}
+use Rattle.lalrpop_follow_sets.specs.follow_sets.FollowNodes.{AreAllReached, AreItemsOfGrammar}
 use Rattle.lalrpop_construction.specs.Words.{places_in}
 use Rattle.lalrpop_lane_states.proofs.theory.lane_states.LaneFound.{found_at, lane_closed, lane_own, lane_reached}
 use Rattle.lalrpop_lane_states.proofs.theory.lane_states.LaneLoop.{lane_states_on, resolved_more}
@@ -21,7 +21,7 @@ pub new-requires-clause-reached : goal.new-requires-clause-reached
 new-requires-clause-reached c = subst (λ (xs : List (State Bits)). AreAllReached (places_in xs) (length xs)) (sym c.deref.ensures.value) (lane_reached (rules_of c.args.self.now.grammar.now) c.args.self.now.start c.args.states.now.items c.requires.lanes)
 
 pub new-requires-clause-own : goal.new-requires-clause-own
-new-requires-clause-own c = subst (λ (xs : List (State Bits)). AreOfGrammar (productions c.args.self.now.grammar.now) (places_in xs)) (sym c.deref.ensures.value) (lane_own (rules_of c.args.self.now.grammar.now) c.args.self.now.start c.args.states.now.items c.requires.lanes)
+new-requires-clause-own c = subst (λ (xs : List (State Bits)). AreItemsOfGrammar (productions c.args.self.now.grammar.now) (places_in xs)) (sym c.deref.ensures.value) (lane_own (rules_of c.args.self.now.grammar.now) c.args.self.now.start c.args.states.now.items c.requires.lanes)
 
 -- ---- the loop
 pub resolve_state-requires-clause-found : goal.resolve_state-requires-clause-found

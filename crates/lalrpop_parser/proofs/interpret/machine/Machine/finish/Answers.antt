@@ -2,7 +2,7 @@ use Rattle.std.proofs.Common.{◌≡◌, ◌<◌, suc, [], length, sym, subst, a
 use Rattle.std.specs.Prelude.{Result}
 use Rattle.lalrpop_base.specs.Words.{contents_in, here}
 use Rattle.lalrpop_grammar.specs.declared.lookahead.token.Token.TheVariants.{Eof}
-use Rattle.lalrpop_parser.specs.Words.{IsAnswer, configuration, trees_on, IsProgress, HasOutcomeFrom}
+use Rattle.lalrpop_parser.specs.Words.{ReportsOutcome, configuration, trees_on, IsProgress, HasOutcomeFrom}
 use Rattle.lalrpop_parser.specs.declared.interpret.error.InterpretError.{InterpretError}
 use Rattle.lalrpop_parser.specs.declared.interpret.machine.Progress.{Progress}
 use Rattle.lalrpop_parser.specs.declared.interpret.machine.Progress.TheVariants.{Stuck, GoesOn, Ended}
@@ -53,6 +53,6 @@ pub returns-in-Ended : goal.returns-in-Ended
 returns-in-Ended g c =
     let ended : IsProgress (contents_in (g.L.LookaheadInterpret.holds c.args.terminals.now) c.args.states.now) c.reducing.self Eof [] c.reduce_on.new.self Ended =
     subst (λ (p : Progress). IsProgress (contents_in (g.L.LookaheadInterpret.holds c.args.terminals.now) c.args.states.now) c.reducing.self Eof [] c.reduce_on.new.self p) c.in-Ended.is (c.in_ok-reduce_on.ensures.made []) in
-    subst (λ (r : Result ParseTree (InterpretError g.row.L.Denot)). IsAnswer (HasOutcomeFrom (contents_in (g.L.LookaheadInterpret.holds c.args.terminals.now) c.args.states.now) (configuration c.args.self []) c.args.self.left) c.args.states.now r) (sym c.ok_or.ensures.value)
+    subst (λ (r : Result ParseTree (InterpretError g.row.L.Denot)). ReportsOutcome (HasOutcomeFrom (contents_in (g.L.LookaheadInterpret.holds c.args.terminals.now) c.args.states.now) (configuration c.args.self []) c.args.self.left) c.args.states.now r) (sym c.ok_or.ensures.value)
     (ended_answer c.args.states.now c.reducing.self c.top-state.result (trees_on c.reduce_on.new.self.trees.items) c.reducing.invariant.reached c.top-state.ensures ended.0 ended.1
     c.only_tree-tree.result c.only_tree-tree.ensures.one c.only_tree-tree.ensures.other)

@@ -3,7 +3,7 @@ use Rattle.std.specs.Prelude.{slice_get}
 use Rattle.lalrpop_base.specs.Words.{Bits}
 use Rattle.lalrpop_lanes.specs.Words.{IsApplied}
 use Rattle.lalrpop_state_graph.specs.Words.{index}
-use Rattle.lalrpop_lane_states.specs.Words.{IsWalked}
+use Rattle.lalrpop_lane_states.specs.Words.{HasOriginalRow}
 use Rattle.lalrpop_lane_states.proofs.theory.merges.Merges.{on_ok, walked_context}
 use Rattle.lalrpop_states.proofs.theory.collapse.Merging.{set_here, set_elsewhere, set_length}
 use Rattle.lalrpop_collections.proofs.theory.lists.Places.{slice_get_at}
@@ -23,7 +23,7 @@ apply-requires-clause-counted c =
     let e = c.requires.ready.copies.counted in
     let here : slice_get old.originals.items c.args.index ≡ Some c.index.result.now = slice_get_at old.originals.items c.args.index c.index.result.now (omega arith) c.index.ensures in
     let same : c.index.result.now ≡ old.inconsistent_state.0 = omega arith in
-    let w : IsWalked old (index c.args.index) = record { original = old.inconsistent_state.0; there = here ∙ ap Some same; row = c.requires.ready.start } in
+    let w : HasOriginalRow old (index c.args.index) = record { original = old.inconsistent_state.0; there = here ∙ ap Some same; row = c.requires.ready.start } in
     ap length c.context_set-context_set.ensures ∙ (walked_context old c.requires.ready (index c.args.index) w).counted ∙ c.requires.counted
 
 pub apply-requires-clause-among : goal.apply-requires-clause-among
@@ -41,7 +41,7 @@ returns-clause-taken c =
     let e = c.requires.ready.copies.counted in
     let here : slice_get old.originals.items n ≡ Some c.index.result.now = slice_get_at old.originals.items n c.index.result.now (omega arith) c.index.ensures in
     let same : c.index.result.now ≡ old.inconsistent_state.0 = omega arith in
-    let w : IsWalked old (index n) = record { original = old.inconsistent_state.0; there = here ∙ ap Some same; row = c.requires.ready.start } in
+    let w : HasOriginalRow old (index n) = record { original = old.inconsistent_state.0; there = here ∙ ap Some same; row = c.requires.ready.start } in
     on_ok c.apply.result c.apply.ensures.applied (λ applied target. record {
       before = c.index_mut.result.now;
       after = c.apply.new.state;
