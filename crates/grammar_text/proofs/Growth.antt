@@ -21,7 +21,9 @@ use Rattle.lalrpop_grammar.specs.declared.repr.Span.{Span}
 use Rattle.grammar_text.specs.declared.lines.Line.TheVariants.{Blank, Fault}
 use Rattle.grammar_text.specs.declared.lines.PlacedLine.{PlacedLine}
 use Rattle.grammar_text.specs.declared.collected.Collected.{Collected}
-use Rattle.grammar_text.specs.Grammar.{Entry, entry_view, with_production, with_mark, terminals_of, terminals_in, terminal_cmp, user_action, entry_of, productions_in, production_of, names, line_names}
+use Rattle.grammar_text.specs.Grammar.{with_production, with_mark, terminals_of, terminals_in, terminal_cmp, user_action, entry_of, productions_in, production_of, names, line_names}
+use Rattle.lalrpop_grammar.specs.grammars.Entries.{entry_view}
+use Rattle.lalrpop_grammar.specs.grammars.Entries.{Entry}
 use Rattle.grammar_text.specs.Collected.{IsCollected, is_same, production_at, inline_at}
 use Rattle.grammar_text.proofs.Numbered.{productions_in-more, entry_of-more, entry_of-marked, entry_of-same}
 

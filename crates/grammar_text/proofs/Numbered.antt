@@ -14,7 +14,8 @@ use Rattle.grammar_text.specs.declared.lines.Line.TheVariants.{Blank, Production
 use Rattle.grammar_text.specs.declared.lines.PlacedLine.{PlacedLine}
 use Rattle.std.proofs.lemmas.Grind.{flat_map-append}
 use Rattle.lalrpop_base.specs.Words.{inline_mark}
-use Rattle.grammar_text.specs.Grammar.{production_of, productions_from, productions_in, has_name, names, line_names, line_marks, marks_in, Entry, entry_of, with_production, with_mark}
+use Rattle.grammar_text.specs.Grammar.{production_of, productions_from, productions_in, has_name, names, line_names, line_marks, marks_in, entry_of, with_production, with_mark}
+use Rattle.lalrpop_grammar.specs.grammars.Entries.{Entry}
 
 -- the productions of two lists of lines are those of the first, and then those of the second with
 -- the next actions

@@ -33,13 +33,15 @@ module _ {W : Type 0} (is_faulty : W → Bool) where
 
 module _ {W : Type 0} (is_faulty : W → Bool) (text : W → List ℕ) where
   -- an error at the first faulty word says why the production is refused
-  pub refused_at : (name : List ℕ) (words : List W) (place : ℕ) (word : W) (e : BuilderError) → is_name name ≡ true → position is_faulty words ≡ Some place → slice_get words place ≡ Some word → IsAtWord name place (text word) e → IsRefusedFor is_faulty text name words e
+  pub refused_at : (name : List ℕ) (words : List W) (place : ℕ) (word : W) (e : BuilderError) → is_name name ≡ true → position is_faulty words ≡ Some place → slice_get words place ≡ Some word → IsAtWord name (place + 1) (text word) e → IsRefusedFor is_faulty text name words e
   refused_at name words place word (Name t) named first there at = absurd at
   refused_at name words place word (Word nonterminal p w) named first there at = (
     at.0,
     named,
-    first ∙ ap (λ n. Some n) (sym at.1),
-    ap (λ n. slice_get (map text words) n) at.1 ∙ word_at text words place word there ∙ ap (λ bytes. Some bytes) (sym at.2),
+    place,
+    at.1,
+    first,
+    word_at text words place word there ∙ ap (λ bytes. Some bytes) (sym at.2),
   )
   refused_at name words place word TooManyActions named first there at = absurd at
   refused_at name words place word Memory named first there at = tt

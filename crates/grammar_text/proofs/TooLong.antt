@@ -9,7 +9,7 @@ use Rattle.grammar_text.specs.declared.collected.Collected.{Collected}
 use Rattle.grammar_text.specs.declared.read_error.ReadError.{ReadError}
 use Rattle.grammar_text.specs.declared.read_error.ReadError.TheVariants.{Line as LineError, TooManyActions, Memory}
 use Rattle.grammar_text.specs.Grammar.{productions_in, productions_from, production_of, user_action}
-use Rattle.grammar_text.specs.Collected.{IsCollected, IsFull, is_production, is_production_line}
+use Rattle.grammar_text.specs.Collected.{IsCollected, IsAddError, is_production, is_production_line}
 use Rattle.grammar_text.specs.Faults.{IsTooLong}
 use Rattle.grammar_text.proofs.Numbered.{productions_from-append, productions_in-more}
 
@@ -29,7 +29,7 @@ longer ls l h =
     omega (arith, ap length (productions_in-more ls l), length-append (productions_in ls) (production_of n l.span l.line), one n l.span l.line h)
 
 -- if a line cannot be added to what lines give, the lines and it are too long
-pub too_long : (ls : List PlacedLine) (l : PlacedLine) (c : Collected) (e : ReadError) → IsCollected ls c → IsFull c l e → IsTooLong (ls ++ l ∷ []) e
+pub too_long : (ls : List PlacedLine) (l : PlacedLine) (c : Collected) (e : ReadError) → IsCollected ls c → IsAddError c l e → IsTooLong (ls ++ l ∷ []) e
 too_long ls l c (LineError n) was full = full
 too_long ls l c TooManyActions was full = omega (arith, counted ls c was, full.1, longer ls l full.0)
 too_long ls l c Memory was full = tt

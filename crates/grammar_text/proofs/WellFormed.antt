@@ -31,7 +31,9 @@ use Rattle.lalrpop_grammar.specs.declared.repr.grammar.NonterminalData.{Nontermi
 use Rattle.grammar_text.specs.declared.lines.Line.{Line}
 use Rattle.grammar_text.specs.declared.lines.Line.TheVariants.{Blank, Production as production_line, Inline, Fault}
 use Rattle.grammar_text.specs.declared.lines.PlacedLine.{PlacedLine}
-use Rattle.grammar_text.specs.Grammar.{Entry, entry_view, terminal_of, terminals_of, terminals_in, terminal_cmp, user_action, productions_in, productions_from, production_of, has_name, names, marks_in, StandsFor, AreTerminalsOf}
+use Rattle.grammar_text.specs.Grammar.{terminal_of, terminals_of, terminals_in, terminal_cmp, user_action, productions_in, productions_from, production_of, has_name, names, marks_in, StandsFor, AreTerminalsOf}
+use Rattle.lalrpop_grammar.specs.grammars.Entries.{entry_view}
+use Rattle.lalrpop_grammar.specs.grammars.Entries.{Entry}
 use Rattle.grammar_text.specs.declared.collected.Collected.{Collected}
 use Rattle.grammar_text.specs.Collected.{IsCollected, is_same}
 use Rattle.grammar_text.proofs.Numbered.{entry_from}

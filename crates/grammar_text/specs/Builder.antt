@@ -1,5 +1,5 @@
 -- What a builder of a grammar takes and refuses.
-use Rattle.std.specs.Prelude.{◌≡◌, ◌<◌, ◌^◌, ℕ, Bool, true, false, not, List, length, map, position, slice_get, is_none, Some}
+use Rattle.std.specs.Prelude.{◌≡◌, ◌+◌, ◌<◌, ◌^◌, ℕ, Bool, true, false, not, List, length, map, position, slice_get, is_none, Some}
 use Rattle.grammar_text.specs.declared.lines.Line.{Line}
 use Rattle.grammar_text.specs.declared.lines.PlacedLine.{PlacedLine}
 use Rattle.grammar_text.specs.declared.builder_error.BuilderError.{BuilderError}
@@ -20,20 +20,20 @@ abbrev pub is_no_symbol : List ℕ → Bool
 is_no_symbol word = is_none (symbol_of word)
 
 -- an error says why a production is refused: its name is not a name; or its name is one, and the word
--- that the error has is the first faulty one; or an allocation failed
+-- that the error has is the first faulty one, counted from 1; or an allocation failed
 module _ {W : Type 0} (is_faulty : W → Bool) (text_of : W → List ℕ) where
   abbrev pub IsRefusedFor : List ℕ → List W → BuilderError → Type 0
   IsRefusedFor name words (Name text) = (text ≡ name) × (is_name name ≡ false)
-  IsRefusedFor name words (Word nonterminal place word) = (nonterminal ≡ name_of name) × (is_name name ≡ true) × (position is_faulty words ≡ Some place) × (slice_get (map text_of words) place ≡ Some word)
+  IsRefusedFor name words (Word nonterminal number word) = (nonterminal ≡ name_of name) × (is_name name ≡ true) × (place : ℕ) × (number ≡ place + 1) × (position is_faulty words ≡ Some place) × (slice_get (map text_of words) place ≡ Some word)
   IsRefusedFor name words TooManyActions = ⊥
   IsRefusedFor name words Memory = Unit {0}
 
--- the error names a word of a production of the name, or an allocation failed
+-- the error has a word of a production of the name, and its number, or an allocation failed
 abbrev pub IsAtWord : List ℕ → ℕ → List ℕ → BuilderError → Type 0
-IsAtWord name place word (Name text) = ⊥
-IsAtWord name place word (Word nonterminal at there) = (nonterminal ≡ name_of name) × (at ≡ place) × (there ≡ word)
-IsAtWord name place word TooManyActions = ⊥
-IsAtWord name place word Memory = Unit {0}
+IsAtWord name number word (Name text) = ⊥
+IsAtWord name number word (Word nonterminal at there) = (nonterminal ≡ name_of name) × (at ≡ number) × (there ≡ word)
+IsAtWord name number word TooManyActions = ⊥
+IsAtWord name number word Memory = Unit {0}
 
 -- a production of a name and words, or a mark of a name, is refused
 abbrev pub IsRefused : List ℕ → List (List ℕ) → BuilderError → Type 0
@@ -63,6 +63,6 @@ IsRefusedOf = IsRefusedFor is_no_name text_of
 -- an allocation failed
 abbrev pub IsTooLarge : List PlacedLine → BuilderError → Type 0
 IsTooLarge lines (Name text) = ⊥
-IsTooLarge lines (Word nonterminal place word) = ⊥
+IsTooLarge lines (Word nonterminal number word) = ⊥
 IsTooLarge lines TooManyActions = 2 ^ 32 < length (productions_in lines)
 IsTooLarge lines Memory = Unit {0}

@@ -16,7 +16,8 @@ use Rattle.grammar_text.specs.declared.lines.PlacedLine.{PlacedLine}
 use Rattle.grammar_text.specs.declared.collected.Collected.{Collected}
 use Rattle.grammar_text.specs.declared.read_error.ReadError.{ReadError}
 use Rattle.grammar_text.specs.declared.read_error.ReadError.TheVariants.{Line as LineError, TooManyActions, Memory}
-use Rattle.grammar_text.specs.Grammar.{entry_view, entry_of, terminal_cmp, terminals_in, productions_in, user_action}
+use Rattle.grammar_text.specs.Grammar.{entry_of, terminal_cmp, terminals_in, productions_in, user_action}
+use Rattle.lalrpop_grammar.specs.grammars.Entries.{entry_view}
 use Rattle.grammar_text.specs.Faults.{IsTooLong}
 
 -- whether the order of terminals finds two terminals equal
@@ -52,10 +53,10 @@ inline_at a span = record { line = Inline a; span = span }
 
 -- an error says why a line cannot be added: it is a production and no number of an action is left,
 -- or an allocation failed
-abbrev pub IsFull : Collected → PlacedLine → ReadError → Type 0
-IsFull c line (LineError n) = ⊥
-IsFull c line TooManyActions = (is_production line ≡ true) × (2 ^ 32 ≤ vec_len c.action_fn_defns)
-IsFull c line Memory = Unit {0}
+abbrev pub IsAddError : Collected → PlacedLine → ReadError → Type 0
+IsAddError c line (LineError n) = ⊥
+IsAddError c line TooManyActions = (is_production line ≡ true) × (2 ^ 32 ≤ vec_len c.action_fn_defns)
+IsAddError c line Memory = Unit {0}
 
 -- what the lines so far have given: what was collected, or why it could not be collected
 abbrev pub IsSoFar : List PlacedLine → Result Collected ReadError → Type 0

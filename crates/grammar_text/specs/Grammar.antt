@@ -21,6 +21,7 @@ use Rattle.lalrpop_grammar.specs.declared.repr.grammar.ActionFnDefnKind.TheVaria
 use Rattle.grammar_text.specs.declared.lines.Line.{Line}
 use Rattle.grammar_text.specs.declared.lines.Line.TheVariants.{Blank, Production as production_line, Inline, Fault}
 use Rattle.grammar_text.specs.declared.lines.PlacedLine.{PlacedLine}
+use Rattle.lalrpop_grammar.specs.grammars.Entries.{entry_view, Entry}
 
 -- the production that a line is, if it is one, with an action and a span
 abbrev pub production_of : ℕ → Span → Line → List Production
@@ -65,16 +66,6 @@ line_marks a Fault = []
 -- the marks of a nonterminal: one for each line that says that it is to be inlined
 abbrev pub marks_in : NonterminalString → List PlacedLine → List Attribute
 marks_in a lines = flat_map (λ (l : PlacedLine). line_marks a l.line) lines
-
--- the entry of a name: its productions, its marks and a span
-pub record Entry : Type 0 where
-  pub productions : List Production
-  pub attributes : List Attribute
-  pub span : Span
-
--- the entry that the data of a nonterminal have, with lists in the place of vectors
-abbrev pub entry_view : NonterminalData → Entry
-entry_view d = record { productions = d.productions.items; attributes = d.attributes.items; span = d.span }
 
 -- the entry that lines give a name: its productions in the order of lines, its marks, and the span
 -- of the first line that names it; there is no entry if no line names it

@@ -10,9 +10,9 @@ use Rattle.grammar_text.specs.declared.lines.PlacedLine.{PlacedLine}
 use Rattle.grammar_text.specs.Symbols.{name_of, is_name, symbols_of}
 
 -- a production, if the words of the right side have symbols, and else a fault
-abbrev pub production_line : NonterminalString → Option (List Symbol) → Line
-production_line a None = Fault
-production_line a (Some symbols) = Production a symbols
+abbrev pub production_or_fault : NonterminalString → Option (List Symbol) → Line
+production_or_fault a None = Fault
+production_or_fault a (Some symbols) = Production a symbols
 
 -- whether a list is empty
 abbrev pub is_empty : {A : Type 0} → List A → Bool
@@ -29,7 +29,7 @@ marked_line w v ws = if is_empty ws && (bytes_eq w (codes "inline") && is_name v
 abbrev pub line_of_words : List (List ℕ) → Line
 line_of_words [] = Blank
 line_of_words (w ∷ []) = Fault
-line_of_words (w ∷ v ∷ ws) = if bytes_eq v (codes "=") && is_name w then production_line (name_of w) (symbols_of ws) else marked_line w v ws
+line_of_words (w ∷ v ∷ ws) = if bytes_eq v (codes "=") && is_name w then production_or_fault (name_of w) (symbols_of ws) else marked_line w v ws
 
 -- the words of a line are the parts between spaces and tabs that are not empty
 abbrev pub words_of : List ℕ → List (List ℕ)

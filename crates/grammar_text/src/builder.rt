@@ -174,7 +174,7 @@ fn symbols_in(alloc: Global, name: &str, words: &[&str]) -> Result<Symbols, Buil
     let mut symbols = Sequence::new(alloc);
     for (place, word) in words.iter().enumerate() {
         match symbol_of(alloc, word)? {
-            None => return Err(no_symbol(alloc, name, place, word)?),
+            None => return Err(no_symbol(alloc, name, place + 1, word)?),
             Some(symbol) => symbols.push(symbol)?,
         }
     }
@@ -190,7 +190,7 @@ fn symbols_by(alloc: Global, name: &str, texts: &[SymbolText<'_>]) -> Result<Sym
     let mut symbols = Sequence::new(alloc);
     for (place, text) in texts.iter().enumerate() {
         match symbol_by(alloc, *text)? {
-            None => return Err(no_symbol(alloc, name, place, text_of(*text))?),
+            None => return Err(no_symbol(alloc, name, place + 1, text_of(*text))?),
             Some(symbol) => symbols.push(symbol)?,
         }
     }
@@ -227,18 +227,18 @@ fn text_of<'text>(text: SymbolText<'text>) -> &'text str
     }
 }
 
-// The error at a word of a production that is no symbol.
+// The error at a word of a production that is no symbol. `number` is counted from 1.
 fn no_symbol(
     alloc: Global,
     name: &str,
-    place: usize,
+    number: usize,
     word: &str,
 ) -> Result<BuilderError, OutOfMemory>
-    ensures { IfOk result (IsAtWord name.now place word.now) }
+    ensures { IfOk result (IsAtWord name.now number word.now) }
 {
     Ok(BuilderError::Word {
         nonterminal: name_of(alloc, name)?,
-        place,
+        number,
         word: Text::new(alloc, word)?,
     })
 }

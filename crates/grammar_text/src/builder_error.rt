@@ -15,11 +15,11 @@ pub enum BuilderError {
     #[error("`{0}` is not a name")]
     Name(Text),
     /// The nonterminal of the production, and the first word that is neither a name nor a literal,
-    /// with its place, counted from 0.
-    #[error("production of {nonterminal}: symbol {place}, `{word}`, is neither a name nor a literal")]
+    /// with its number, counted from 1.
+    #[error("production of {nonterminal}: symbol {number}, `{word}`, is neither a name nor a literal")]
     Word {
         nonterminal: NonterminalString,
-        place: usize,
+        number: usize,
         word: Text,
     },
     /// There are more than 4294967296 productions.

@@ -8,8 +8,9 @@ ghost use Rattle.lalrpop_base.specs.Words.{name_cmp};
 ghost use Rattle.grammar_text.specs.declared.lines.PlacedLine.{PlacedLine};
 ghost use Rattle.lalrpop_grammar.specs.declared.repr.TerminalString.{TerminalString};
 ghost use Rattle.lalrpop_grammar.specs.declared.repr.NonterminalString.{NonterminalString};
-ghost use Rattle.grammar_text.specs.Grammar.{entry_view, with_production, with_mark, user_action, terminal_cmp, terminals_of};
-ghost use Rattle.grammar_text.specs.Collected.{IsCollected, IsSoFar, IsFull, is_same, production_at, inline_at};
+ghost use Rattle.grammar_text.specs.Grammar.{with_production, with_mark, user_action, terminal_cmp, terminals_of};
+ghost use Rattle.lalrpop_grammar.specs.grammars.Entries.{entry_view};
+ghost use Rattle.grammar_text.specs.Collected.{IsCollected, IsSoFar, IsAddError, is_same, production_at, inline_at};
 ghost use Rattle.grammar_text.specs.declared.read_error.ReadError.TheVariants.{TooManyActions};
 
 use crate::lines::{Line, PlacedLine};
@@ -61,7 +62,7 @@ impl Collected {
             IsCollected (lines ++ line ∷ []) self.new) }
         ensures few { OnOk result (vec_len self.old.action_fn_defns ≤ 2 ^ 32 →
             vec_len self.new.action_fn_defns ≤ 2 ^ 32) }
-        ensures err { IfErr result (IsFull self.old line) }
+        ensures err { IfErr result (IsAddError self.old line) }
     {
         let PlacedLine { line, span } = line;
         match line {
@@ -84,7 +85,7 @@ impl Collected {
         ensures ok { OnOk result ((lines : List PlacedLine) → IsCollected lines self.old →
             IsCollected (lines ++ production_at nonterminal symbols span ∷ []) self.new) }
         ensures few { OnOk result (vec_len self.new.action_fn_defns ≤ 2 ^ 32) }
-        ensures err { IfErr result (IsFull self.old (production_at nonterminal symbols span)) }
+        ensures err { IfErr result (IsAddError self.old (production_at nonterminal symbols span)) }
     {
         let action = action_after(self.action_fn_defns.len())?;
         self.action_fn_defns.push(user_defn(alloc)?)?;

@@ -3,6 +3,7 @@
 //!
 //! - `builder`, `builder_error`: the builder, and its errors.
 //! - `grammar`, `read_error`: the reader of a text, and its errors.
+//! - `lines`: the lines of a text, and what each line says.
 //! - `symbols`: names, literals and symbols of words.
 #![tactic(auto)]
 
@@ -10,7 +11,7 @@ pub mod builder;
 pub mod builder_error;
 mod collected;
 pub mod grammar;
-mod lines;
+pub mod lines;
 pub mod read_error;
 pub mod symbols;
 

@@ -94,8 +94,8 @@ fn push_word<'a>(words: &mut Vec<&'a str>, word: &'a str) -> Result<(), OutOfMem
     Ok(())
 }
 
-// The line without a CR at its end, which belongs to the line end.
-fn before_cr(line: &str) -> &str
+/// The line without a CR at its end, which belongs to the line end.
+pub fn before_cr(line: &str) -> &str
     ensures { result.now ≡ without_cr line.now }
 {
     match line.strip_suffix('\r') {

@@ -8,12 +8,12 @@ ghost use Rattle.lalrpop_useful.specs.useful.Cycles.{AddsCyclic, DerivesAlone, I
 
 use crate::names::NameSet;
 use crate::reachable::visit;
+use lalrpop_base::first::FirstSets;
+use lalrpop_base::memory::OutOfMemory;
+use lalrpop_base::repr::grammar::Grammar;
+use lalrpop_base::repr::{NonterminalString, Production, Symbol};
 use lalrpop_collections::collections::sets::{add_key, has_key};
 use lalrpop_collections::collections::walk::Walk;
-use lalrpop_collections::memory::OutOfMemory;
-use lalrpop_grammar::first::FirstSets;
-use lalrpop_grammar::repr::grammar::Grammar;
-use lalrpop_grammar::repr::{NonterminalString, Production, Symbol};
 use std::alloc::Global;
 use std::collections::BTreeSet;
 

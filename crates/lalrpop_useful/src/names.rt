@@ -2,10 +2,10 @@
 ghost use Rattle.std.specs.Prelude.{◌≡◌, ◌++◌, IfOk, OnOk, map};
 ghost use Rattle.lalrpop_grammar.specs.grammars.WellFormed.{productions};
 
+use lalrpop_base::memory::OutOfMemory;
+use lalrpop_base::repr::grammar::Grammar;
+use lalrpop_base::repr::{NonterminalString, Production};
 use lalrpop_collections::collections::Set;
-use lalrpop_collections::memory::OutOfMemory;
-use lalrpop_grammar::repr::grammar::Grammar;
-use lalrpop_grammar::repr::{NonterminalString, Production};
 use std::alloc::Global;
 
 /// Names of nonterminals, ascending.

@@ -3,16 +3,17 @@ ghost use Rattle.std.specs.Prelude.{◌↔◌, IsTrue, IfOk, OnOk, Contains, map
 ghost use Rattle.std.specs.List.{flat_map};
 ghost use Rattle.lalrpop_grammar.specs.grammars.WellFormed.{IsWellFormed, productions, productions_of};
 ghost use Rattle.lalrpop_grammar.specs.declared.repr.NonterminalString.{NonterminalString};
-ghost use Rattle.lalrpop_useful.specs.useful.Productive.{AreAmong, AreTried, IsProductive, IsTried, users_at};
+ghost use Rattle.lalrpop_useful.specs.useful.Productive.{AreNonterminalsAmong, AreTried, IsProductive, IsTried};
+ghost use Rattle.lalrpop_grammar.specs.grammars.Entries.{users_at};
 
 use crate::names::{NameSet, all_productions};
 use crate::reachable::visit;
 use crate::users::{Users, users_of};
+use lalrpop_base::memory::OutOfMemory;
+use lalrpop_base::repr::grammar::Grammar;
+use lalrpop_base::repr::{NonterminalString, Production, Symbol};
 use lalrpop_collections::collections::sets::has_key;
 use lalrpop_collections::collections::walk::Walk;
-use lalrpop_collections::memory::OutOfMemory;
-use lalrpop_grammar::repr::grammar::Grammar;
-use lalrpop_grammar::repr::{NonterminalString, Production, Symbol};
 use std::alloc::Global;
 
 /// The nonterminals that derive a list of terminals. A production is read once, and again for each
@@ -115,7 +116,7 @@ fn try_one(
 
 // Whether each nonterminal of the symbols is one of the names.
 fn are_among(names: &NameSet, symbols: &[Symbol]) -> bool
-    ensures { IsTrue result ↔ AreAmong names.now.keys symbols.now }
+    ensures { IsTrue result ↔ AreNonterminalsAmong names.now.keys symbols.now }
 {
     for symbol in symbols {
         if let Symbol::Nonterminal(name) = symbol

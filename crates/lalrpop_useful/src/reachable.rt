@@ -7,11 +7,11 @@ ghost use Rattle.lalrpop_grammar.specs.declared.repr.Symbol.TheVariants.{Nonterm
 ghost use Rattle.lalrpop_useful.specs.useful.Reachable.{IsOnRightSide, IsReachable};
 
 use crate::names::NameSet;
+use lalrpop_base::memory::OutOfMemory;
+use lalrpop_base::repr::grammar::Grammar;
+use lalrpop_base::repr::{NonterminalString, Production, Symbol};
 use lalrpop_collections::collections::sets::has_key;
 use lalrpop_collections::collections::walk::Walk;
-use lalrpop_collections::memory::OutOfMemory;
-use lalrpop_grammar::repr::grammar::Grammar;
-use lalrpop_grammar::repr::{NonterminalString, Production, Symbol};
 use std::alloc::Global;
 
 /// The nonterminals of the lists that the start symbol derives, with the start symbol itself. Names

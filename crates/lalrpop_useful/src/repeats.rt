@@ -3,10 +3,10 @@ ghost use Rattle.std.specs.Prelude.{◌≡◌, ◌↔◌, ◌<◌, ◌≤◌, le
 ghost use Rattle.lalrpop_grammar.specs.declared.repr.Production.{Production};
 ghost use Rattle.lalrpop_useful.specs.useful.Repeats.{AddsRepeats, IsFirstWith, IsRepeat, NoneBelow, RepeatsAt, RepeatsBelow};
 
-use lalrpop_collections::exact::equal;
-use lalrpop_collections::memory::OutOfMemory;
-use lalrpop_grammar::repr::grammar::Grammar;
-use lalrpop_grammar::repr::{Production, Symbols};
+use lalrpop_base::exact::equal;
+use lalrpop_base::memory::OutOfMemory;
+use lalrpop_base::repr::grammar::Grammar;
+use lalrpop_base::repr::{Production, Symbols};
 use std::alloc::Global;
 use std::marker::Model;
 

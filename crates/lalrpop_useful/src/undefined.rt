@@ -8,10 +8,10 @@ ghost use Rattle.lalrpop_useful.specs.useful.Undefined.{AddsUndefined, IsFirstUs
 ghost use Rattle.lalrpop_useful.specs.useful.Reachable.{HasProduction};
 
 use crate::names::all_productions;
-use lalrpop_collections::exact::equal;
-use lalrpop_collections::memory::OutOfMemory;
-use lalrpop_grammar::repr::grammar::Grammar;
-use lalrpop_grammar::repr::{NonterminalString, Production, Symbol};
+use lalrpop_base::exact::equal;
+use lalrpop_base::memory::OutOfMemory;
+use lalrpop_base::repr::grammar::Grammar;
+use lalrpop_base::repr::{NonterminalString, Production, Symbol};
 use std::alloc::Global;
 use std::marker::Model;
 

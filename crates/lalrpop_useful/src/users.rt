@@ -3,9 +3,9 @@ ghost use Rattle.std.specs.Prelude.{◌∷◌, [], IfOk, OnOk, map};
 ghost use Rattle.lalrpop_useful.specs.useful.Productive.{AddsUser, HasUsers};
 
 use crate::names::NameSet;
+use lalrpop_base::memory::OutOfMemory;
+use lalrpop_base::repr::{NonterminalString, Production, Symbol};
 use lalrpop_collections::collections::multimap::Multimap;
-use lalrpop_collections::memory::OutOfMemory;
-use lalrpop_grammar::repr::{NonterminalString, Production, Symbol};
 use std::alloc::Global;
 
 // Under a nonterminal, those that have it on a right side.

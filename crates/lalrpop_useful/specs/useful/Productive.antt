@@ -9,28 +9,16 @@ use Rattle.lalrpop_grammar.specs.declared.repr.Production.{Production}
 use Rattle.lalrpop_grammar.specs.declared.repr.Symbol.{Symbol}
 use Rattle.lalrpop_grammar.specs.declared.repr.Symbol.TheVariants.{Nonterminal}
 use Rattle.lalrpop_grammar.specs.declared.repr.TerminalString.{TerminalString}
-use Rattle.lalrpop_grammar.specs.grammars.Grammar.{Derives, symbols_of}
+use Rattle.lalrpop_grammar.specs.grammars.Grammar.{Derives, terminal_symbols}
 use Rattle.lalrpop_grammar.specs.grammars.WellFormed.{name_cmp}
 use Rattle.lalrpop_useful.specs.useful.Reachable.{HasProduction}
+use Rattle.lalrpop_grammar.specs.grammars.Entries.{users_at, listed_names, UserMap}
 
 -- a nonterminal is productive if it derives a list of terminals
 abbrev pub IsProductive : List Production → NonterminalString → Type 0
-IsProductive g a = (w : List TerminalString) × Derives g (Nonterminal a ∷ []) (symbols_of w)
+IsProductive g a = (w : List TerminalString) × Derives g (Nonterminal a ∷ []) (terminal_symbols w)
 
 -- ---- the users of a nonterminal
--- a map from nonterminals to sets of them
-abbrev pub UserMap : Type 0
-UserMap = List (NonterminalString × BTreeSet NonterminalString)
-
--- the names of a set, none if there is no set
-abbrev pub listed_names : Option (BTreeSet NonterminalString) → List NonterminalString
-listed_names None = []
-listed_names (Some set) = set.keys
-
--- the users that a map has under a nonterminal
-abbrev pub users_at : UserMap → NonterminalString → List NonterminalString
-users_at users a = listed_names (collection_at name_cmp users a)
-
 -- a user is added under each nonterminal of the symbols, and no user is lost
 pub record AddsUser (user : NonterminalString) (symbols : List Symbol) (old new : UserMap) : Type 0 where
   pub added : (a : NonterminalString) → Contains symbols (Nonterminal a) → Contains (users_at new a) user
@@ -42,8 +30,8 @@ HasUsers ps users = (p : Production) → Contains ps p → (a : NonterminalStrin
 
 -- ---- the walk
 -- each nonterminal of the symbols is one of the names
-abbrev pub AreAmong : List NonterminalString → List Symbol → Type 0
-AreAmong names symbols = (k : ℕ) (a : NonterminalString) → slice_get symbols k ≡ Some (Nonterminal a) → Contains names a
+abbrev pub AreNonterminalsAmong : List NonterminalString → List Symbol → Type 0
+AreNonterminalsAmong names symbols = (k : ℕ) (a : NonterminalString) → slice_get symbols k ≡ Some (Nonterminal a) → Contains names a
 
 -- a nonterminal of the symbols waits
 abbrev pub HasWaiting : List NonterminalString → List Symbol → Type 0
@@ -51,8 +39,8 @@ HasWaiting waiting symbols = (a : NonterminalString) × Contains symbols (Nonter
 
 -- a production is tried: the walk goes to its nonterminal if it went to all those of the right side
 pub data IsTried (p : Production) (old new : Walk NonterminalString) : Type 0 where
-  left : new ≡ old → (AreAmong old.visited.keys p.symbols → Contains old.visited.keys p.nonterminal) → IsTried p old new
-  came : AreAmong old.visited.keys p.symbols → Visits (λ a. p.nonterminal ≡ a) old new → IsTried p old new
+  left : new ≡ old → (AreNonterminalsAmong old.visited.keys p.symbols → Contains old.visited.keys p.nonterminal) → IsTried p old new
+  came : AreNonterminalsAmong old.visited.keys p.symbols → Visits (λ a. p.nonterminal ≡ a) old new → IsTried p old new
 
 -- each name is productive, and that of a production
 pub record AreProductive (g : List Production) (names : List NonterminalString) : Type 0 where
@@ -63,4 +51,4 @@ pub record AreProductive (g : List Production) (names : List NonterminalString) 
 pub record AreTried (ps : List Production) (old new : Walk NonterminalString) : Type 0 where
   pub visits : Visits (λ a. Contains new.visited.keys a) old new
   pub right : (g : List Production) → ((p : Production) → Contains ps p → Contains g p) → AreProductive g old.visited.keys → AreProductive g new.visited.keys
-  pub settled : (p : Production) → Contains ps p → AreAmong new.visited.keys p.symbols → Contains new.visited.keys p.nonterminal ⊎ HasWaiting new.waiting.items p.symbols
+  pub settled : (p : Production) → Contains ps p → AreNonterminalsAmong new.visited.keys p.symbols → Contains new.visited.keys p.nonterminal ⊎ HasWaiting new.waiting.items p.symbols

@@ -1,4 +1,4 @@
-use Rattle.std.proofs.Common.{◌≡◌, [], List, ℕ, false, true, get_or, subst}
+use Rattle.std.proofs.Common.{◌≡◌, ◌+◌, [], List, ℕ, false, true, get_or, subst}
 use Rattle.std.specs.Prelude.{slice_get, MatchOption, None, Option, Some}
 use Rattle.std.proofs.lemmas.Option.{slice_get-get_or}
 use Rattle.lalrpop_grammar.specs.declared.repr.Symbol.{Symbol}
@@ -15,5 +15,5 @@ returns-in-None-clause-err c named =
     let error = c.in_ok-no_symbol-in-None.field-0 in
     let there : slice_get texts place ≡ Some text = slice_get-get_or texts place _ c.loop-place-test.true in
     let faulty : is_no_name text ≡ true = subst (λ (o : Option Symbol). MatchOption o (is_no_name text ≡ true) (λ (symbol : Symbol). (symbol ≡ symbol_by text) × (is_no_name text ≡ false))) c.in-None.is c.in_ok-symbol_by.ensures.ok in
-    let at = subst (λ (bytes : List ℕ). IsAtWord c.args.name.now place bytes error) c.text_of.ensures c.in_ok-no_symbol-in-None.ensures in
+    let at = subst (λ (bytes : List ℕ). IsAtWord c.args.name.now (place + 1) bytes error) c.text_of.ensures c.in_ok-no_symbol-in-None.ensures in
     refused_at is_no_name text_of c.args.name.now texts place text error named (first_at is_no_name texts place text c.loop-place.invariant.1 there faulty) there at

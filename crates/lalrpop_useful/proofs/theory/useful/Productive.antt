@@ -10,17 +10,17 @@ use Rattle.lalrpop_collections.proofs.theory.lists.Bounded.{in_flat_map}
 use Rattle.lalrpop_collections.proofs.theory.lists.Members.{Contains-none, contains_head, contains_tail, contains-cons, contains_map, of_flat, pigeonhole}
 use Rattle.lalrpop_collections.proofs.theory.lists.Lists.{contains_place, place_contains, contains_of_map}
 use Rattle.lalrpop_collections.proofs.theory.lists.Places.{apart_from_differ, contains_at}
-use Rattle.lalrpop_grammar.specs.Words.{productions, productions_of, Derives, as_it_is, replace, symbols_of}
+use Rattle.lalrpop_grammar.specs.Words.{productions, productions_of, Derives, as_it_is, replace, terminal_symbols}
 use Rattle.lalrpop_grammar.proofs.theory.grammars.Derivations.{Derives-append, Derives-left, Derives-production, Derives-to, Derives-trans}
-use Rattle.lalrpop_grammar.proofs.theory.grammars.SymbolLists.{not_both, same_nonterminal, symbols_of-append}
+use Rattle.lalrpop_grammar.proofs.theory.grammars.SymbolLists.{not_both, same_nonterminal, terminal_symbols-append}
 use Rattle.lalrpop_grammar.specs.declared.repr.Symbol.TheVariants.{Nonterminal, Terminal}
 use Rattle.lalrpop_useful.proofs.Types.{Grammar, NonterminalString, Production, Symbol, TerminalString}
-use Rattle.lalrpop_useful.specs.Words.{AreAmong, AreProductive, AreTried, HasUsers, HasWaiting, IsProductive, IsTried, UserMap, came, left, users_at}
+use Rattle.lalrpop_useful.specs.Words.{AreNonterminalsAmong, AreProductive, AreTried, HasUsers, HasWaiting, IsProductive, IsTried, UserMap, came, left, users_at}
 use Rattle.lalrpop_useful.proofs.theory.useful.Reachable.{Names}
 
 -- ---- what a production adds is productive
 -- a list whose nonterminals are productive derives a list of terminals
-derives_terminals : (g : List Production) (l : List Symbol) → ((a : NonterminalString) → Contains l (Nonterminal a) → IsProductive g a) → (w : List TerminalString) × Derives g l (symbols_of w)
+derives_terminals : (g : List Production) (l : List Symbol) → ((a : NonterminalString) → Contains l (Nonterminal a) → IsProductive g a) → (w : List TerminalString) × Derives g l (terminal_symbols w)
 derives_terminals g [] each = ([], as_it_is)
 derives_terminals g (Terminal t ∷ l) each =
     let rest = derives_terminals g l (λ a c. each a (contains_tail (Terminal t) l (Nonterminal a) c)) in
@@ -28,20 +28,20 @@ derives_terminals g (Terminal t ∷ l) each =
 derives_terminals g (Nonterminal a ∷ l) each =
     let first = each a (contains_head (Nonterminal a) l) in
     let rest = derives_terminals g l (λ b c. each b (contains_tail (Nonterminal a) l (Nonterminal b) c)) in
-    (first.0 ++ rest.0, Derives-to (sym (symbols_of-append first.0 rest.0)) (Derives-append first.1 rest.1))
+    (first.0 ++ rest.0, Derives-to (sym (terminal_symbols-append first.0 rest.0)) (Derives-append first.1 rest.1))
 
 -- the name of a production is productive if the nonterminals of its right side are
-productive_by : (g : List Production) (names : List NonterminalString) (p : Production) → Contains g p → ((a : NonterminalString) → Contains names a → IsProductive g a) → AreAmong names p.symbols → IsProductive g p.nonterminal
+productive_by : (g : List Production) (names : List NonterminalString) (p : Production) → Contains g p → ((a : NonterminalString) → Contains names a → IsProductive g a) → AreNonterminalsAmong names p.symbols → IsProductive g p.nonterminal
 productive_by g names p among right all =
     let whole = derives_terminals g p.symbols (λ a c. let at = contains_place p.symbols (Nonterminal a) c in right a (all at.0 a at.1)) in
     (whole.0, Derives-trans (Derives-production p among) whole.1)
 
 -- ---- names to which no production adds any
-module _ (g : List Production) (names : List NonterminalString) (closed : (p : Production) → Contains g p → AreAmong names p.symbols → Contains names p.nonterminal) where
+module _ (g : List Production) (names : List NonterminalString) (closed : (p : Production) → Contains g p → AreNonterminalsAmong names p.symbols → Contains names p.nonterminal) where
   abbrev AllIn : List Symbol → Type 0
   AllIn l = (a : NonterminalString) → Contains l (Nonterminal a) → Contains names a
 
-  terminals_only : (w : List TerminalString) → AllIn (symbols_of w)
+  terminals_only : (w : List TerminalString) → AllIn (terminal_symbols w)
   terminals_only w a c = let r = contains_of_map Terminal w (Nonterminal a) c in absurd (not_both (sym r.2))
 
   -- they have all nonterminals of a list from which a list of them is derived: by induction on the derivation
@@ -77,7 +77,7 @@ all_or_some (Nonterminal b ∷ l) P Q each = elim (each b (contains_head (Nonter
 ]
 
 -- a right side that was visited was so before, or has a nonterminal that waits since
-settled_before : (l : List Symbol) (old waiting new : List NonterminalString) → ((a : NonterminalString) → Contains new a → Contains old a ⊎ Contains waiting a) → AreAmong new l → AreAmong old l ⊎ HasWaiting waiting l
+settled_before : (l : List Symbol) (old waiting new : List NonterminalString) → ((a : NonterminalString) → Contains new a → Contains old a ⊎ Contains waiting a) → AreNonterminalsAmong new l → AreNonterminalsAmong old l ⊎ HasWaiting waiting l
 settled_before l old waiting new only all =
     elim (all_or_some l (Contains old) (Contains waiting) (λ a c. let at = contains_place l (Nonterminal a) c in only a (all at.0 a at.1))) [
       | inl each ↦ inl (λ k a at. each a (place_contains l k (Nonterminal a) at))
@@ -100,7 +100,7 @@ Tried-one p old new (left same none) =
       visits = (Tried-none old).visits;
       right = λ g among h. h;
       settled = λ q c all. inl (elim (contains-cons p [] q c) [
-        | inl e ↦ subst (λ (r : Production). AreAmong old.visited.keys r.symbols → Contains old.visited.keys r.nonterminal) e none all
+        | inl e ↦ subst (λ (r : Production). AreNonterminalsAmong old.visited.keys r.symbols → Contains old.visited.keys r.nonterminal) e none all
         | inr n ↦ absurd (Contains-none q n)
       ]);
     } in
@@ -170,7 +170,7 @@ pub record IsGrowing (g : List Production) (walk : Names) : Type 0 where
   pub right : AreProductive g walk.visited.keys
   pub came : (a : NonterminalString) → Contains walk.waiting.items a → Contains walk.visited.keys a
   pub differ : AllDiffer walk.visited.keys
-  pub settled : (p : Production) → Contains g p → AreAmong walk.visited.keys p.symbols → Contains walk.visited.keys p.nonterminal ⊎ HasWaiting walk.waiting.items p.symbols
+  pub settled : (p : Production) → Contains g p → AreNonterminalsAmong walk.visited.keys p.symbols → Contains walk.visited.keys p.nonterminal ⊎ HasWaiting walk.waiting.items p.symbols
 
 none_visited : (ks : List NonterminalString) (a : NonterminalString) → ks ≡ [] → Contains ks a → ⊥
 none_visited ks a none c = Contains-none a (subst (λ (ns : List NonterminalString). Contains ns a) none c)
@@ -205,7 +205,7 @@ module _ (g : Grammar) (users : UserMap) (ps : List Production) (all : ps ≡ pr
     is_tried : (p : Production) → Contains (productions g) p → Contains p.symbols (Nonterminal key) → Contains (flat_map (productions_of g) (users_at users key)) p
     is_tried p c on = in_flat_map (productions_of g) (users_at users key) p.nonterminal p (has p (subst (λ (qs : List Production). Contains qs p) (sym all) c) key on) (own p c)
 
-    settle : (p : Production) → Contains (productions g) p → AreAmong after.visited.keys p.symbols → Contains before.visited.keys p.nonterminal ⊎ HasWaiting before.waiting.items p.symbols → Contains after.visited.keys p.nonterminal ⊎ HasWaiting after.waiting.items p.symbols
+    settle : (p : Production) → Contains (productions g) p → AreNonterminalsAmong after.visited.keys p.symbols → Contains before.visited.keys p.nonterminal ⊎ HasWaiting before.waiting.items p.symbols → Contains after.visited.keys p.nonterminal ⊎ HasWaiting after.waiting.items p.symbols
     settle p c every (inl there) = inl (stays p.nonterminal there)
     settle p c every (inr some) = elim (contains-cons key popped.waiting.items some.0 (subst (λ (ks : List NonterminalString). Contains ks some.0) taken some.2)) [
       | inl e ↦ t.settled p (is_tried p c (subst (λ (a : NonterminalString). Contains p.symbols (Nonterminal a)) (sym e) some.1)) every

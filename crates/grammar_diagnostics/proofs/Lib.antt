@@ -1,0 +1,7 @@
+pub mod SameFaults
+pub mod Within
+pub mod FoundWords
+pub mod Uses
+pub mod NearestNames
+pub mod CycleSteps
+pub mod Doubts

@@ -1,0 +1,7 @@
+use Rattle.std.proofs.Common.{◌≡◌, ◌++◌, map, drop}
+use Rattle.grammar_diagnostics.specs.Warnings.{use_warning, warning_view}
+use Rattle.grammar_diagnostics.proofs.warnings.push_uses.Given as goal
+
+-- the warnings so far, and those that are left
+abbrev pub invariant-loop-found : goal.invariant-loop-found
+invariant-loop-found l = map warning_view l.all.items ++ map use_warning (drop l.found-index l.uses) ≡ map warning_view l.initial.all.items ++ map use_warning l.uses

@@ -1,0 +1,11 @@
+pub mod Pieces
+pub mod Faults
+pub mod TextErrors
+pub mod Hints
+pub mod Texts
+pub mod Warnings
+pub mod Places
+pub mod Messages
+pub mod Nearest
+pub mod WarningPlaces
+pub mod CyclePaths

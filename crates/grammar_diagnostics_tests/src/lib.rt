@@ -1,0 +1,12 @@
+//! Tests of `grammar_diagnostics`: faulty lines with their messages, warnings that hold and do not
+//! hold, the places of warnings, names that may be meant, and ways back to cyclic nonterminals.
+#![tactic(auto)]
+
+#[cfg(test)]
+mod cycles;
+#[cfg(test)]
+mod doubts;
+#[cfg(test)]
+mod faults;
+#[cfg(test)]
+mod places;
