@@ -4,6 +4,6 @@ pub use Rattle.lalrpop_ambiguity.specs.derivations.DerivationSteps.{GivesStep, S
 pub use Rattle.lalrpop_ambiguity.specs.derivations.DerivationSteps.{step_text, steps_left, steps_of, steps_over, steps_text, tree_by, tree_within}
 pub use Rattle.lalrpop_ambiguity.specs.derivations.EqualDerivations.{equal_tree, tree_exact, tree_same}
 pub use Rattle.lalrpop_ambiguity.specs.derivations.Represented.{roots_of, separator_text, symbols_at, tree_nodes, tree_of, tree_step, tree_text, trees_at, trees_text}
-pub use Rattle.lalrpop_ambiguity.specs.witnesses.Witnesses.{AreProductive, DerivationsHaveTrees, DeriveSome, HasNoTwins, HasTwoDerivations, HaveOneRoot, IsAmbiguous, IsUseful}
+pub use Rattle.lalrpop_ambiguity.specs.witnesses.Witnesses.{DeriveTerminals, DerivationsHaveTrees, DeriveSome, HasNoTwins, HasTwoDerivations, HaveOneRoot, IsAmbiguous, IsUseful}
 pub use Rattle.lalrpop_ambiguity.specs.witnesses.Witnesses.{IsExpansion, IsWitness, WitnessesHaveSentences}
 pub use Rattle.lalrpop_ambiguity.specs.witnesses.Searches.{IfFound}

@@ -11,8 +11,8 @@ ghost use Rattle.lalrpop_ambiguity.specs.derivations.Represented.{symbols_at, tr
 
 pub(crate) use comparison::are_equal;
 use copies::clone_node;
-use lalrpop_collections::memory::OutOfMemory;
-use lalrpop_grammar::repr::{Production, Symbol};
+use lalrpop_base::memory::OutOfMemory;
+use lalrpop_base::repr::{Production, Symbol};
 use std::alloc::Global;
 use std::{fmt, mem};
 use text::show_tree;

@@ -13,11 +13,11 @@ ghost use Rattle.lalrpop_ambiguity.specs.witnesses.Searches.{IfFound};
 
 use crate::witness::{Ambiguity, is_witness};
 use frames::{Frame, Shape, is_whole};
-use lalrpop_collections::exact::equal;
-use lalrpop_collections::memory::OutOfMemory;
-use lalrpop_grammar::repr::grammar::Grammar;
-use lalrpop_grammar::repr::{Production, Symbol, TerminalString};
-use lalrpop_states::lr1_core::state::{Action, Conflict, State};
+use lalrpop_base::exact::equal;
+use lalrpop_base::lr1_core::state::{Action, Conflict, State};
+use lalrpop_base::memory::OutOfMemory;
+use lalrpop_base::repr::grammar::Grammar;
+use lalrpop_base::repr::{Production, Symbol, TerminalString};
 use links::links_of;
 use moves::{Ground, Taken, add_moves};
 use pending::{Pending, Step, Waiting};

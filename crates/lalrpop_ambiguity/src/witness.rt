@@ -7,10 +7,10 @@ ghost use Rattle.lalrpop_ambiguity.specs.derivations.Represented.{roots_of, symb
 ghost use Rattle.lalrpop_ambiguity.specs.witnesses.Witnesses.{HaveOneRoot, IsExpansion, IsWitness};
 
 use crate::derivation::{Derivation, are_equal, push_children};
-use lalrpop_collections::exact::{contains, equal};
-use lalrpop_collections::memory::OutOfMemory;
-use lalrpop_grammar::repr::grammar::Grammar;
-use lalrpop_grammar::repr::{NonterminalString, Production, Symbol};
+use lalrpop_base::exact::{contains, equal};
+use lalrpop_base::memory::OutOfMemory;
+use lalrpop_base::repr::grammar::Grammar;
+use lalrpop_base::repr::{NonterminalString, Production, Symbol};
 use std::alloc::Global;
 
 /// Two derivations. They are a witness of ambiguity if `is_witness` returns `true` for them.

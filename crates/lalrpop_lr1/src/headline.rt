@@ -8,8 +8,8 @@ ghost use Rattle.std.specs.Prelude.{IfOk, IfErr};
 ghost use Rattle.lalrpop_base.specs.Words.{IsOnNoRightSide, IsFirstWrong, IsWellFormed, productions};
 ghost use Rattle.lalrpop_tables.specs.Words.{Collapses, HasConflictsOf};
 ghost use Rattle.lalrpop_parser.specs.runs.FaithfulAnswers.{IsTreeWithin, IsCutOffByTables};
-ghost use Rattle.lalrpop_lr1.specs.runs.Headline.{IsAccepted, IsToldByTables};
-ghost use Rattle.lalrpop_lr1.specs.runs.ParseAnswers.{HadTables, HadTablesWhere, IfConflicts, IfRefusedAt, IfLimitTold, TellsTrees};
+ghost use Rattle.lalrpop_lr1.specs.runs.Headline.{IsAccepted, IsOutcomeByTables};
+ghost use Rattle.lalrpop_lr1.specs.runs.ParseAnswers.{HadTables, HadTablesWhere, IfParseConflicts, IfRefusedAt, IfParseLimit, TellsTrees};
 ghost use Rattle.lalrpop_parser.specs.trees.ParseTrees.{tree_of};
 
 use by_tables::parse_by_tables;
@@ -19,7 +19,7 @@ use lalrpop_parser::interpret::ParseTree;
 use lalrpop_tables::build::options::Options;
 use lalrpop_tables::lr1::build_states;
 pub use parse_error::ParseError;
-use parse_error::told_by;
+use parse_error::parse_result;
 use std::alloc::Global;
 
 /// Builds the tables of a grammar, and parses a list of terminals by them, in at most `limit`
@@ -46,7 +46,7 @@ pub fn parse<'grammar>(
         IsOnNoRightSide (productions grammar.now) start →
         IsFirstWrong (productions grammar.now) start tokens.items token)) }
     // If the limit is the result, `limit` steps were made and there is another.
-    ensures limit { IfErr result (IfLimitTold
+    ensures limit { IfErr result (IfParseLimit
         (IsCutOffByTables (productions grammar.now) start tokens.items limit)) }
     // By tables, if the start symbol is on no right side, a list with a parse tree gives this tree,
     // the limit or an allocation failure. So it has no other one.
@@ -56,15 +56,15 @@ pub fn parse<'grammar>(
     // A tree, a refusal or the limit comes from a run by tables, whatever the start symbol. If
     // there are no tables, the error has the conflicts.
     ensures run { HadTables result →
-        IsToldByTables grammar.now options.now start tokens.items limit result }
-    ensures conflicts { IfErr result (IfConflicts (HasConflictsOf
+        IsOutcomeByTables grammar.now options.now start tokens.items limit result }
+    ensures conflicts { IfErr result (IfParseConflicts (HasConflictsOf
         (Collapses grammar.now options.now) options.now.stop_after grammar.now start)) }
 {
     let Ok(name) = start.clone(alloc) else {
         return Err(ParseError::Memory);
     };
     match build_states(alloc, grammar, start, options) {
-        Ok(states) => told_by(parse_by_tables(alloc, grammar, &name, &states, tokens, limit)),
+        Ok(states) => parse_result(parse_by_tables(alloc, grammar, &name, &states, tokens, limit)),
         Err(BuildError::Conflicts(error)) => Err(ParseError::Conflicts(error)),
         Err(BuildError::Memory) => Err(ParseError::Memory),
     }

@@ -7,7 +7,7 @@ use Rattle.lalrpop_grammar.specs.declared.repr.Production.{Production}
 use Rattle.lalrpop_grammar.specs.declared.repr.Symbol.{Symbol}
 use Rattle.lalrpop_grammar.specs.declared.repr.Symbol.TheVariants.{Nonterminal}
 use Rattle.lalrpop_grammar.specs.declared.repr.TerminalString.{TerminalString}
-use Rattle.lalrpop_grammar.specs.grammars.Grammar.{Derives, symbols_of}
+use Rattle.lalrpop_grammar.specs.grammars.Grammar.{Derives, terminal_symbols}
 use Rattle.lalrpop_grammar.specs.parsing.Trees.{IsParseTree, Tree as ParseTree}
 use Rattle.lalrpop_ambiguity.specs.derivations.Derivations.{AreOfGrammar, IsDerivation, Tree, beside, leaves, no_trees, root}
 
@@ -29,12 +29,12 @@ IsExpansion g p symbols = Contains g p × (p.symbols ≡ symbols)
 
 -- ---- what a witness says of sentences
 -- each symbol of a list derives a list of terminals
-abbrev pub AreProductive : List Production → List Symbol → Type 0
-AreProductive g l = (x : Symbol) → Contains l x → (w : List TerminalString) × Derives g (x ∷ []) (symbols_of w)
+abbrev pub DeriveTerminals : List Production → List Symbol → Type 0
+DeriveTerminals g l = (x : Symbol) → Contains l x → (w : List TerminalString) × Derives g (x ∷ []) (terminal_symbols w)
 
 -- each symbol of a list derives a list of terminals that is not empty
 abbrev pub DeriveSome : List Production → List Symbol → Type 0
-DeriveSome g l = (x : Symbol) → Contains l x → (t : TerminalString) × (w : List TerminalString) × Derives g (x ∷ []) (symbols_of (t ∷ w))
+DeriveSome g l = (x : Symbol) → Contains l x → (t : TerminalString) × (w : List TerminalString) × Derives g (x ∷ []) (terminal_symbols (t ∷ w))
 
 -- a nonterminal is in a list of symbols that the start symbol derives, and the symbols of the list
 -- derive lists of terminals
@@ -42,15 +42,15 @@ pub record IsUseful (g : List Production) (start a : NonterminalString) : Type 0
   pub form : List Symbol
   pub derived : Derives g (Nonterminal start ∷ []) form
   pub there : Contains form (Nonterminal a)
-  pub productive : AreProductive g form
+  pub productive : DeriveTerminals g form
 
 -- some list of terminals has two different derivations from the start symbol
 pub record HasTwoDerivations (g : List Production) (start : NonterminalString) : Type 0 where
   pub sentence : List TerminalString
   pub left : Tree
   pub right : Tree
-  pub left_derives : IsDerivation g (Nonterminal start) (symbols_of sentence) left
-  pub right_derives : IsDerivation g (Nonterminal start) (symbols_of sentence) right
+  pub left_derives : IsDerivation g (Nonterminal start) (terminal_symbols sentence) left
+  pub right_derives : IsDerivation g (Nonterminal start) (terminal_symbols sentence) right
   pub differ : left ≢ right
 
 -- no two productions of a nonterminal have the same right side

@@ -5,8 +5,8 @@ ghost use Rattle.lalrpop_ambiguity.specs.derivations.DerivationSteps.{Step, fore
 
 use super::Derivation;
 use super::walk::{DerivationStep, DerivationWalk};
-use lalrpop_collections::exact::equal;
-use lalrpop_collections::memory::OutOfMemory;
+use lalrpop_base::exact::equal;
+use lalrpop_base::memory::OutOfMemory;
 use std::alloc::Global;
 
 /// Whether two trees are the same.

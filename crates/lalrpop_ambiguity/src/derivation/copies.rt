@@ -6,8 +6,8 @@ ghost use Rattle.lalrpop_ambiguity.specs.derivations.DerivationSteps.{Step, leav
 
 use super::Derivation;
 use super::walk::{DerivationStep, DerivationWalk};
-use lalrpop_collections::memory::OutOfMemory;
-use lalrpop_grammar::repr::Production;
+use lalrpop_base::memory::OutOfMemory;
+use lalrpop_base::repr::Production;
 use std::alloc::Global;
 use std::mem;
 

@@ -5,8 +5,8 @@ ghost use Rattle.lalrpop_ambiguity.specs.derivations.Represented.{tree_of};
 ghost use Rattle.lalrpop_ambiguity.specs.derivations.DerivationSteps.{around_of, forest_of, steps_over, steps_left, steps_of, step_of, GivesStep};
 
 use super::Derivation;
-use lalrpop_collections::memory::OutOfMemory;
-use lalrpop_grammar::repr::{Production, Symbol};
+use lalrpop_base::memory::OutOfMemory;
+use lalrpop_base::repr::{Production, Symbol};
 use std::alloc::Global;
 
 /// A step of a walk.

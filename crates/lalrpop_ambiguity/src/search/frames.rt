@@ -1,7 +1,7 @@
 //! The parts of productions that a search has derived so far.
-use lalrpop_collections::exact::equal;
-use lalrpop_collections::memory::OutOfMemory;
-use lalrpop_grammar::repr::{NonterminalString, Production, Symbol};
+use lalrpop_base::exact::equal;
+use lalrpop_base::memory::OutOfMemory;
+use lalrpop_base::repr::{NonterminalString, Production, Symbol};
 use std::alloc::Global;
 
 /// A production, of which the symbols from `from` up to `to` are derived.

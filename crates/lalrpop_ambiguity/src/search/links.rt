@@ -1,6 +1,6 @@
 //! The states from which each state is entered.
-use lalrpop_collections::memory::OutOfMemory;
-use lalrpop_states::lr1_core::state::{State, StateIndex};
+use lalrpop_base::lr1_core::state::{State, StateIndex};
+use lalrpop_base::memory::OutOfMemory;
 use std::alloc::Global;
 
 /// For each state, the numbers of the states that lead to it.

@@ -5,11 +5,11 @@ use super::frames::{
 };
 use super::links::Links;
 use super::pending::{Pending, Side, Step, Waiting};
-use lalrpop_collections::exact::equal;
-use lalrpop_collections::memory::OutOfMemory;
-use lalrpop_grammar::repr::grammar::Grammar;
-use lalrpop_grammar::repr::{NonterminalString, Production, Symbol};
-use lalrpop_states::lr1_core::state::State;
+use lalrpop_base::exact::equal;
+use lalrpop_base::lr1_core::state::State;
+use lalrpop_base::memory::OutOfMemory;
+use lalrpop_base::repr::grammar::Grammar;
+use lalrpop_base::repr::{NonterminalString, Production, Symbol};
 use std::alloc::Global;
 
 /// What a search goes by: a grammar, states, and their links.

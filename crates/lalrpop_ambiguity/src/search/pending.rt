@@ -1,7 +1,7 @@
 //! The shapes that a search still has to try, the cheapest first.
 use super::frames::Shape;
-use lalrpop_collections::memory::OutOfMemory;
-use lalrpop_grammar::repr::Production;
+use lalrpop_base::memory::OutOfMemory;
+use lalrpop_base::repr::Production;
 use std::alloc::Global;
 use std::collections::BTreeMap;
 

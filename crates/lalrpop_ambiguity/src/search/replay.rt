@@ -3,8 +3,8 @@ use super::frames::Frame;
 use super::pending::{Side, Step};
 use crate::derivation::Derivation;
 use crate::witness::Ambiguity;
-use lalrpop_collections::memory::OutOfMemory;
-use lalrpop_grammar::repr::Symbol;
+use lalrpop_base::memory::OutOfMemory;
+use lalrpop_base::repr::Symbol;
 use std::alloc::Global;
 
 // A frame, and the derivations of its symbols so far.

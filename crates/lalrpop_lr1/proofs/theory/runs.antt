@@ -1,4 +1,4 @@
 -- Runs of the parser.
 pub mod AnyStart
 pub mod ByTables
-pub mod ToldByTables
+pub mod OutcomeByTables

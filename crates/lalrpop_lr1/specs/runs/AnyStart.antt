@@ -17,7 +17,7 @@ use Rattle.lalrpop_grammar.specs.declared.repr.TerminalString.{TerminalString}
 use Rattle.lalrpop_grammar.specs.declared.repr.grammar.Grammar.{Grammar}
 use Rattle.lalrpop_tables.specs.Words.{Collapses, AreTablesOf}
 use Rattle.lalrpop_construction.specs.declared.options.Options.{Options}
-use Rattle.lalrpop_lr1.specs.runs.ParseAnswers.{IsOutcomeTold}
+use Rattle.lalrpop_lr1.specs.runs.ParseAnswers.{ReportsParseOutcome}
 use Rattle.lalrpop_lr1.specs.declared.headline.parse_error.ParseError.{ParseError}
 use Rattle.lalrpop_parser.specs.declared.interpret.tree.ParseTree.{ParseTree}
 
@@ -65,7 +65,7 @@ IsOutcomeBelow t limit CutOff = limit ≤ nodes (beside t no_trees)
 -- the limit; nothing is said of conflicts and of an allocation failure
 abbrev pub TellsTreesBelow : ℕ → List TerminalString → Result ParseTree ParseError → List Production → NonterminalString → Type 0
 TellsTreesBelow limit w answer g start =
-    (t : Tree) → IsParseTree g start w t → IsOutcomeTold (IsOutcomeBelow t limit) answer
+    (t : Tree) → IsParseTree g start w t → ReportsParseOutcome (IsOutcomeBelow t limit) answer
 
 -- the outcome with a node of the new start symbol above its tree
 abbrev pub above : NonterminalString → Outcome → Outcome
@@ -75,8 +75,8 @@ above f CutOff = CutOff
 
 -- the result is the outcome of the run by the grammar's tables, without the node of the new start
 -- symbol, which is on no right side
-pub record IsToldByTablesAbove (g : Grammar) (options : Options) (f : NonterminalString) (w : List TerminalString) (limit : ℕ) (answer : Result ParseTree ParseError) : Type 0 where
+pub record IsOutcomeByTablesAbove (g : Grammar) (options : Options) (f : NonterminalString) (w : List TerminalString) (limit : ℕ) (answer : Result ParseTree ParseError) : Type 0 where
   pub tables : List (State Bits)
   pub made : AreTablesOf (Collapses g options) options.method options.max_copies g f tables
   pub alone : IsOnNoRightSide (productions g) f
-  pub told : IsOutcomeTold (λ o. HasOutcome (contents g.terminals tables) w limit (above f o)) answer
+  pub told : ReportsParseOutcome (λ o. HasOutcome (contents g.terminals tables) w limit (above f o)) answer

@@ -9,7 +9,7 @@ use Rattle.lalrpop_grammar.specs.declared.repr.grammar.Grammar.{Grammar}
 use Rattle.lalrpop_tables.specs.Words.{Collapses, AreTablesOf}
 use Rattle.lalrpop_construction.specs.declared.options.Options.{Options}
 use Rattle.lalrpop_parser.specs.runs.FaithfulAnswers.{IsCutOff}
-use Rattle.lalrpop_lr1.specs.runs.ParseAnswers.{IsOutcomeTold, IfLimitTold}
+use Rattle.lalrpop_lr1.specs.runs.ParseAnswers.{ReportsParseOutcome, IfParseLimit}
 use Rattle.lalrpop_parser.specs.trees.ParseTrees.{tree_of}
 use Rattle.lalrpop_lr1.specs.declared.headline.parse_error.ParseError.{ParseError}
 use Rattle.lalrpop_parser.specs.declared.interpret.tree.ParseTree.{ParseTree}
@@ -21,10 +21,10 @@ pub record IsAccepted (collapsed : Type 0) (g : Grammar) (start : NonterminalStr
 
 -- the result is the outcome of the run by the grammar's tables. A tree has the list as its leaves,
 -- and its nodes are within the limit. The limit means that another step would pass it
-pub record IsToldByTables (g : Grammar) (options : Options) (start : NonterminalString) (w : List TerminalString) (limit : ℕ) (answer : Result ParseTree ParseError) : Type 0 where
+pub record IsOutcomeByTables (g : Grammar) (options : Options) (start : NonterminalString) (w : List TerminalString) (limit : ℕ) (answer : Result ParseTree ParseError) : Type 0 where
   pub tables : List (State Bits)
   pub made : AreTablesOf (Collapses g options) options.method options.max_copies g start tables
-  pub told : IsOutcomeTold (HasOutcome (contents g.terminals tables) w limit) answer
+  pub told : ReportsParseOutcome (HasOutcome (contents g.terminals tables) w limit) answer
   pub of_list : IfOk answer (λ tree. leaves (beside (tree_of tree) no_trees) ≡ w)
   pub within : IfOk answer (λ tree. nodes (beside (tree_of tree) no_trees) ≤ limit)
-  pub cut_off : IfErr answer (IfLimitTold (IsCutOff (contents g.terminals tables) w limit))
+  pub cut_off : IfErr answer (IfParseLimit (IsCutOff (contents g.terminals tables) w limit))

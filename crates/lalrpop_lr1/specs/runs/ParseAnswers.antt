@@ -32,11 +32,11 @@ HadTablesWhere P (Err Limit) = P
 HadTablesWhere P (Err Memory) = Unit {0}
 
 -- the property holds of the states and conflicts of the error, if it has some
-abbrev pub IfConflicts : (TableConstructionError Bits → Type 0) → ParseError → Type 0
-IfConflicts P (Conflicts error) = P error
-IfConflicts P (Refused token) = Unit {0}
-IfConflicts P Limit = Unit {0}
-IfConflicts P Memory = Unit {0}
+abbrev pub IfParseConflicts : (TableConstructionError Bits → Type 0) → ParseError → Type 0
+IfParseConflicts P (Conflicts error) = P error
+IfParseConflicts P (Refused token) = Unit {0}
+IfParseConflicts P Limit = Unit {0}
+IfParseConflicts P Memory = Unit {0}
 
 -- the property holds of the token that is refused, if one is
 abbrev pub IfRefusedAt : (Token → Type 0) → ParseError → Type 0
@@ -46,30 +46,30 @@ IfRefusedAt P Limit = Unit {0}
 IfRefusedAt P Memory = Unit {0}
 
 -- the property holds if the error is the limit
-abbrev pub IfLimitTold : Type 0 → ParseError → Type 0
-IfLimitTold P (Conflicts error) = Unit {0}
-IfLimitTold P (Refused token) = Unit {0}
-IfLimitTold P Limit = P
-IfLimitTold P Memory = Unit {0}
+abbrev pub IfParseLimit : Type 0 → ParseError → Type 0
+IfParseLimit P (Conflicts error) = Unit {0}
+IfParseLimit P (Refused token) = Unit {0}
+IfParseLimit P Limit = P
+IfParseLimit P Memory = Unit {0}
 
 -- the property holds of the outcome that is reported, for a refusal by some state; conflicts report
 -- none
-abbrev pub IsOutcomeTold : (Outcome → Type 0) → Result ParseTree ParseError → Type 0
-IsOutcomeTold R (Ok tree) = R (Parsed (tree_of tree))
-IsOutcomeTold R (Err (Conflicts error)) = Unit {0}
-IsOutcomeTold R (Err (Refused token)) = (n : ℕ) × R (RefusedIn n token)
-IsOutcomeTold R (Err Limit) = R CutOff
-IsOutcomeTold R (Err Memory) = Unit {0}
+abbrev pub ReportsParseOutcome : (Outcome → Type 0) → Result ParseTree ParseError → Type 0
+ReportsParseOutcome R (Ok tree) = R (Parsed (tree_of tree))
+ReportsParseOutcome R (Err (Conflicts error)) = Unit {0}
+ReportsParseOutcome R (Err (Refused token)) = (n : ℕ) × R (RefusedIn n token)
+ReportsParseOutcome R (Err Limit) = R CutOff
+ReportsParseOutcome R (Err Memory) = Unit {0}
 
 -- the result for a list with a parse tree is the tree if its nodes are within the limit, else the
 -- limit; nothing is said of conflicts and of an allocation failure
 abbrev pub TellsTrees : ℕ → List TerminalString → Result ParseTree ParseError → List Production → NonterminalString → Type 0
 TellsTrees limit w answer g start =
-    (t : Tree) → IsParseTree g start w t → IsOutcomeTold (IsOutcomeFor t limit) answer
+    (t : Tree) → IsParseTree g start w t → ReportsParseOutcome (IsOutcomeFor t limit) answer
 
 -- the result of the parser, without the state of a refusal
-abbrev pub told_by : {L : Type 0} → Result ParseTree (InterpretError L) → Result ParseTree ParseError
-told_by (Ok tree) = Ok tree
-told_by (Err (RefusedBy state token)) = Err (Refused token)
-told_by (Err LimitPassed) = Err Limit
-told_by (Err NoMemory) = Err Memory
+abbrev pub parse_result : {L : Type 0} → Result ParseTree (InterpretError L) → Result ParseTree ParseError
+parse_result (Ok tree) = Ok tree
+parse_result (Err (RefusedBy state token)) = Err (Refused token)
+parse_result (Err LimitPassed) = Err Limit
+parse_result (Err NoMemory) = Err Memory

@@ -4,10 +4,10 @@ ghost use Rattle.std.specs.Prelude.{◌≡◌, IfOk, IfErr};
 ghost use Rattle.lalrpop_base.specs.Words.{HasNewStart, IsRefusedStart, IsFirstWrong, Tree, Node, beside, no_trees, IsWellFormed, productions};
 ghost use Rattle.lalrpop_grammar.specs.declared.repr.NonterminalString.{NonterminalString};
 ghost use Rattle.lalrpop_tables.specs.Words.{Collapses, HasConflictsOf};
-ghost use Rattle.lalrpop_lr1.specs.runs.AnyStart.{IsTreeBelow, TellsTreesBelow, IsToldByTablesAbove};
+ghost use Rattle.lalrpop_lr1.specs.runs.AnyStart.{IsTreeBelow, TellsTreesBelow, IsOutcomeByTablesAbove};
 ghost use Rattle.lalrpop_parser.specs.runs.FaithfulAnswers.{IsCutOffByTables};
 ghost use Rattle.lalrpop_lr1.specs.runs.Headline.{IsAccepted};
-ghost use Rattle.lalrpop_lr1.specs.runs.ParseAnswers.{HadTables, HadTablesWhere, IfConflicts, IfRefusedAt, IfLimitTold};
+ghost use Rattle.lalrpop_lr1.specs.runs.ParseAnswers.{HadTables, HadTablesWhere, IfParseConflicts, IfRefusedAt, IfParseLimit};
 ghost use Rattle.lalrpop_parser.specs.trees.ParseTrees.{tree_of};
 
 use super::{ParseError, parse};
@@ -106,7 +106,7 @@ pub fn parse_from_any<'grammar>(
     ensures refuses { IfErr result (IfRefusedAt (λ token.
         IsFirstWrong augmented.now.old_productions augmented.now.old_start tokens.items token)) }
     // If the limit is the result, `limit` steps were made and there is another.
-    ensures limit { IfErr result (IfLimitTold (IsCutOffByTables
+    ensures limit { IfErr result (IfParseLimit (IsCutOffByTables
         (productions augmented.now.grammar) augmented.now.start tokens.items limit)) }
     // By tables, a list with a parse tree gives this tree, the limit or an allocation failure. So
     // it has no other one.
@@ -115,9 +115,9 @@ pub fn parse_from_any<'grammar>(
 
     // A tree, a refusal or the limit comes from a run by tables, whose start symbol is on no right
     // side. If there are no tables, the error has the conflicts.
-    ensures run { HadTables result → IsToldByTablesAbove
+    ensures run { HadTables result → IsOutcomeByTablesAbove
         augmented.now.grammar options.now augmented.now.start tokens.items limit result }
-    ensures conflicts { IfErr result (IfConflicts (HasConflictsOf
+    ensures conflicts { IfErr result (IfParseConflicts (HasConflictsOf
         (Collapses augmented.now.grammar options.now) options.now.stop_after
         augmented.now.grammar augmented.now.start)) }
 {

@@ -2,7 +2,7 @@
 //! trees.
 ghost use Rattle.std.specs.Prelude.{◌≡◌, ◌<◌, ◌≤◌, length, IfOk, IfErr};
 ghost use Rattle.lalrpop_base.specs.Words.{AreCoherent, AreFaithful, contents, IsOnNoRightSide, HasOutcome, IsFirstWrong, productions, beside, no_trees, leaves, nodes};
-ghost use Rattle.lalrpop_parser.specs.runs.Answers.{IsAnswer};
+ghost use Rattle.lalrpop_parser.specs.runs.Answers.{ReportsOutcome};
 ghost use Rattle.lalrpop_parser.specs.runs.FaithfulAnswers.{AnswersTrees, IfLimit, IfRefused, IsCutOff, IsLimit, IsTreeWithin};
 ghost use Rattle.lalrpop_parser.specs.trees.ParseTrees.{tree_of};
 
@@ -48,7 +48,7 @@ pub fn parse_by_tables<'a, 'grammar>(
         AnswersTrees limit tokens.items states.now result (productions grammar.now) start.now }
 
     // Whatever the start symbol, the result is the outcome of the run by the states.
-    ensures run { IsAnswer
+    ensures run { ReportsOutcome
         (HasOutcome (contents grammar.now.terminals states.now) tokens.items limit) states.now
         result }
     ensures of_list { IfOk result (λ tree. leaves (beside (tree_of tree) no_trees) ≡ tokens.items) }

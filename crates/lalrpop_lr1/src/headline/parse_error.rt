@@ -1,6 +1,6 @@
 //! The errors of a parse by the tables of a grammar: why there is no tree.
 ghost use Rattle.std.specs.Prelude.{◌≡◌};
-ghost use Rattle.lalrpop_lr1.specs.runs.ParseAnswers.{told_by};
+ghost use Rattle.lalrpop_lr1.specs.runs.ParseAnswers.{parse_result};
 
 use lalrpop_base::lookahead::token::Token;
 use lalrpop_base::lookahead::token_set::TokenSet;
@@ -23,10 +23,10 @@ pub enum ParseError<'grammar> {
 }
 
 // The result of the parser, without the state of a refusal.
-pub(super) fn told_by<'grammar>(
+pub(super) fn parse_result<'grammar>(
     answer: Result<ParseTree, InterpretError<'_, '_, TokenSet>>,
 ) -> Result<ParseTree, ParseError<'grammar>>
-    ensures { result ≡ told_by answer.entry }
+    ensures { result ≡ parse_result answer.entry }
 {
     match answer {
         Ok(tree) => Ok(tree),

@@ -1,7 +1,7 @@
 -- Derivations of lists of terminals are parse trees: each production is replaced by its nonterminal.
 use Rattle.std.proofs.Common.{◌≡◌, ◌∙◌, List, [], ◌∷◌, ◌++◌, refl, sym, ap, ap₂, subst}
 use mathlib.Core.List.{cons≢nil, head-eq_of_cons-eq, nil≢cons, tail-eq_of_cons-eq}
-use Rattle.lalrpop_grammar.specs.Words.{IsParseTree, symbols_of, AreOfGrammar as AreParseTrees, Leaf as ParseLeaf, Node as ParseNode, Tree as ParseTree, Trees as ParseTrees, beside as parse_beside, leaves as parse_leaves, no_trees as no_parse_trees, root as parse_root, roots as parse_roots}
+use Rattle.lalrpop_grammar.specs.Words.{IsParseTree, terminal_symbols, AreOfGrammar as AreParseTrees, Leaf as ParseLeaf, Node as ParseNode, Tree as ParseTree, Trees as ParseTrees, beside as parse_beside, leaves as parse_leaves, no_trees as no_parse_trees, root as parse_root, roots as parse_roots}
 use Rattle.lalrpop_grammar.specs.declared.repr.Symbol.TheVariants.{Nonterminal, Terminal}
 use Rattle.lalrpop_grammar.proofs.theory.grammars.SymbolLists.{TerminalParts, not_both, same_nonterminal, same_terminal, terminal_parts}
 use Rattle.lalrpop_ambiguity.proofs.Types.{NonterminalString, Production, Symbol, TerminalString}
@@ -22,7 +22,7 @@ parse_roots_of (beside (Leaf (Nonterminal a)) ts) = ap (λ l. Nonterminal a ∷ 
 parse_roots_of (beside (Node p cs) ts) = ap (λ l. Nonterminal p.nonterminal ∷ l) (parse_roots_of ts)
 
 -- the leaves are the list of terminals
-pub parse_leaves_of : (ts : Trees) (w : List TerminalString) → leaves ts ≡ symbols_of w → parse_leaves (parse_trees ts) ≡ w
+pub parse_leaves_of : (ts : Trees) (w : List TerminalString) → leaves ts ≡ terminal_symbols w → parse_leaves (parse_trees ts) ≡ w
 parse_leaves_of no_trees [] e = refl
 parse_leaves_of no_trees (t ∷ w) e = absurd (nil≢cons e)
 parse_leaves_of (beside (Leaf (Terminal t)) ts) [] e = absurd (cons≢nil e)
@@ -34,7 +34,7 @@ parse_leaves_of (beside (Node p cs) ts) w e =
     ap₂ (λ u v. u ++ v) (parse_leaves_of cs s.first s.left) (parse_leaves_of ts s.second s.right) ∙ sym s.joined
 
 -- they are of the grammar
-pub parse_of_grammar : (g : List Production) (ts : Trees) (w : List TerminalString) → leaves ts ≡ symbols_of w → AreOfGrammar g ts → AreParseTrees g (parse_trees ts)
+pub parse_of_grammar : (g : List Production) (ts : Trees) (w : List TerminalString) → leaves ts ≡ terminal_symbols w → AreOfGrammar g ts → AreParseTrees g (parse_trees ts)
 parse_of_grammar g no_trees w e h = tt
 parse_of_grammar g (beside (Leaf (Terminal t)) ts) [] e h = absurd (cons≢nil e)
 parse_of_grammar g (beside (Leaf (Terminal t)) ts) (u ∷ w) e h = parse_of_grammar g ts w (tail-eq_of_cons-eq e) h
@@ -87,21 +87,21 @@ some≢none : {t : ParseTree} {ts : ParseTrees} → parse_beside t ts ≡ no_par
 some≢none e = cons≢nil (ap parse_roots e)
 
 -- a nonterminal is at no leaf of a list of terminals
-no_nonterminal : (a : NonterminalString) (l : List Symbol) (w : List TerminalString) → Nonterminal a ∷ l ≡ symbols_of w → ⊥
+no_nonterminal : (a : NonterminalString) (l : List Symbol) (w : List TerminalString) → Nonterminal a ∷ l ≡ terminal_symbols w → ⊥
 no_nonterminal a l [] e = cons≢nil e
 no_nonterminal a l (t ∷ w) e = not_both (head-eq_of_cons-eq e)
 
 -- what follows a terminal of a list of terminals is one
 pub record Rest (l : List Symbol) : Type 0 where
   pub terminals : List TerminalString
-  pub are : l ≡ symbols_of terminals
+  pub are : l ≡ terminal_symbols terminals
 
-rest_of : (t : TerminalString) (l : List Symbol) (w : List TerminalString) → Terminal t ∷ l ≡ symbols_of w → Rest l
+rest_of : (t : TerminalString) (l : List Symbol) (w : List TerminalString) → Terminal t ∷ l ≡ terminal_symbols w → Rest l
 rest_of t l [] e = absurd (cons≢nil e)
 rest_of t l (u ∷ w) e = record { terminals = w; are = tail-eq_of_cons-eq e }
 
 module _ (g : List Production) (twins : HasNoTwins g) where
-  pub same_derivations : (ds es : Trees) (v w : List TerminalString) → leaves ds ≡ symbols_of v → leaves es ≡ symbols_of w → AreOfGrammar g ds → AreOfGrammar g es → parse_trees ds ≡ parse_trees es → ds ≡ es
+  pub same_derivations : (ds es : Trees) (v w : List TerminalString) → leaves ds ≡ terminal_symbols v → leaves es ≡ terminal_symbols w → AreOfGrammar g ds → AreOfGrammar g es → parse_trees ds ≡ parse_trees es → ds ≡ es
   same_derivations no_trees no_trees v w a b h k e = refl
   same_derivations no_trees (beside (Leaf (Terminal t)) es) v w a b h k e = absurd (none≢some e)
   same_derivations no_trees (beside (Leaf (Nonterminal t)) es) v w a b h k e = absurd (none≢some e)
@@ -140,7 +140,7 @@ parse_one (Leaf (Nonterminal a)) = refl
 parse_one (Node p cs) = refl
 
 -- a derivation of a list of terminals gives a parse tree of it
-pub derivation_parses : (g : List Production) (start : NonterminalString) (w : List TerminalString) (t : Tree) → IsDerivation g (Nonterminal start) (symbols_of w) t → IsParseTree g start w (parse_tree t)
+pub derivation_parses : (g : List Production) (start : NonterminalString) (w : List TerminalString) (t : Tree) → IsDerivation g (Nonterminal start) (terminal_symbols w) t → IsParseTree g start w (parse_tree t)
 derivation_parses g start w t d =
     let row : Trees = beside t no_trees in
     record {

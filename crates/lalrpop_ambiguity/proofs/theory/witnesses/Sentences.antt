@@ -4,12 +4,12 @@ use Rattle.std.proofs.Common.{◌≡◌, ◌∙◌, inl, inr, List, [], ◌∷�
 use Rattle.std.specs.Prelude.{Contains}
 use mathlib.Core.List.{nil≢cons}
 use Rattle.lalrpop_collections.proofs.theory.lists.Members.{Contains-none, contains-cons, contains_head, contains_tail}
-use Rattle.lalrpop_grammar.specs.Words.{Derives, symbols_of}
+use Rattle.lalrpop_grammar.specs.Words.{Derives, terminal_symbols}
 use Rattle.lalrpop_grammar.specs.declared.repr.Symbol.TheVariants.{Nonterminal}
 use Rattle.lalrpop_grammar.proofs.theory.grammars.Forests.{Forest, derives_forest, empty, leaf, node}
-use Rattle.lalrpop_grammar.proofs.theory.grammars.SymbolLists.{symbols_of-append}
+use Rattle.lalrpop_grammar.proofs.theory.grammars.SymbolLists.{terminal_symbols-append}
 use Rattle.lalrpop_ambiguity.proofs.Types.{NonterminalString, Production, Symbol, TerminalString}
-use Rattle.lalrpop_ambiguity.specs.Words.{AreOfGrammar, AreProductive, DeriveSome, Leaf, Node, Tree, Trees, WitnessesHaveSentences, beside, leaves, no_trees, root, roots}
+use Rattle.lalrpop_ambiguity.specs.Words.{AreOfGrammar, DeriveTerminals, DeriveSome, Leaf, Node, Tree, Trees, WitnessesHaveSentences, beside, leaves, no_trees, root, roots}
 use Rattle.lalrpop_ambiguity.proofs.theory.derivations.Views.{leaves_cons}
 use Rattle.lalrpop_ambiguity.proofs.theory.witnesses.Rows.{Alone, HaveLeaves, along, alone, have_along, leaves_along, of_along, roots_along, same_first, same_others}
 use Rattle.lalrpop_ambiguity.proofs.theory.witnesses.Expansions.{Expands, Expansion, Same, expand, leaves_expanded, of_expanded, pieces, roots_expanded, same_expanded}
@@ -43,7 +43,7 @@ derives_row d = forest_row (derives_forest d)
 -- trees over a list of symbols, whose leaves are a list of terminals
 pub record Spelled (g : List Production) (l : List Symbol) : Type 0 where
   pub sentence : List TerminalString
-  pub row : Row g l (symbols_of sentence)
+  pub row : Row g l (terminal_symbols sentence)
 
 -- trees over two lists, one after the other
 pub joined : {g : List Production} {l m : List Symbol} → Spelled g l → Spelled g m → Spelled g (l ++ m)
@@ -56,11 +56,11 @@ joined {g} a b =
         trees = along s.trees r.trees;
         of_grammar = of_along g s.trees r.trees s.of_grammar r.of_grammar;
         over = roots_along s.trees r.trees ∙ ap₂ (λ u v. u ++ v) s.over r.over;
-        spells = leaves_along s.trees r.trees ∙ ap₂ (λ u v. u ++ v) s.spells r.spells ∙ sym (symbols_of-append a.sentence b.sentence);
+        spells = leaves_along s.trees r.trees ∙ ap₂ (λ u v. u ++ v) s.spells r.spells ∙ sym (terminal_symbols-append a.sentence b.sentence);
       };
     }
 
-pub spelled : (g : List Production) (l : List Symbol) → AreProductive g l → Spelled g l
+pub spelled : (g : List Production) (l : List Symbol) → DeriveTerminals g l → Spelled g l
 spelled g [] h = record { sentence = []; row = record { trees = no_trees; of_grammar = tt; over = refl; spells = refl } }
 spelled g (x ∷ l) h =
     let d = h x (contains_head x l) in
@@ -82,7 +82,7 @@ unfolding joined derives_row
 spelled_some g [] h = record { spelled = record { sentence = []; row = record { trees = no_trees; of_grammar = tt; over = refl; spells = refl } }; have = tt }
 spelled_some g (x ∷ l) h =
     let d = h x (contains_head x l) in
-    let one : Row g (x ∷ []) (symbols_of (d.0 ∷ d.1)) = derives_row d.2 in
+    let one : Row g (x ∷ []) (terminal_symbols (d.0 ∷ d.1)) = derives_row d.2 in
     let rest = spelled_some g l (λ y c. h y (contains_tail x l y c)) in
     record {
       spelled = joined {l = x ∷ []} (record { sentence = d.0 ∷ d.1; row = one }) rest.spelled;
@@ -161,10 +161,10 @@ module _ (g : List Production) where
     pub left : Spelled g before
     pub right : Spelled g after
 
-  pub context : (a : NonterminalString) (form : List Symbol) → Contains form (Nonterminal a) → AreProductive g form → Context a form
+  pub context : (a : NonterminalString) (form : List Symbol) → Contains form (Nonterminal a) → DeriveTerminals g form → Context a form
   context a form there productive =
       let r = around form (Nonterminal a) there in
-      let all : AreProductive g (r.before ++ Nonterminal a ∷ r.after) = subst (AreProductive g) r.whole productive in
+      let all : DeriveTerminals g (r.before ++ Nonterminal a ∷ r.after) = subst (DeriveTerminals g) r.whole productive in
       record {
         before = r.before;
         after = r.after;
@@ -193,11 +193,11 @@ module _ (g : List Production) where
       ∙ ap₂ (λ u v. u ++ v) c.left.row.over (ap₂ (λ x l. x ∷ l) h c.right.row.over)
       ∙ sym c.whole
 
-  pub leaves_within : {a : NonterminalString} {form : List Symbol} (c : Context a form) (t : Tree) (w : List TerminalString) → leaves (beside t no_trees) ≡ symbols_of w → leaves (within c t) ≡ symbols_of (c.left.sentence ++ (w ++ c.right.sentence))
+  pub leaves_within : {a : NonterminalString} {form : List Symbol} (c : Context a form) (t : Tree) (w : List TerminalString) → leaves (beside t no_trees) ≡ terminal_symbols w → leaves (within c t) ≡ terminal_symbols (c.left.sentence ++ (w ++ c.right.sentence))
   leaves_within c t w h =
       leaves_along c.left.row.trees (beside t c.right.row.trees)
-      ∙ ap₂ (λ u v. u ++ v) c.left.row.spells (leaves_cons t c.right.row.trees ∙ ap₂ (λ u v. u ++ v) h c.right.row.spells ∙ sym (symbols_of-append w c.right.sentence))
-      ∙ sym (symbols_of-append c.left.sentence (w ++ c.right.sentence))
+      ∙ ap₂ (λ u v. u ++ v) c.left.row.spells (leaves_cons t c.right.row.trees ∙ ap₂ (λ u v. u ++ v) h c.right.row.spells ∙ sym (terminal_symbols-append w c.right.sentence))
+      ∙ sym (terminal_symbols-append c.left.sentence (w ++ c.right.sentence))
 
 -- a witness with a useful root leads to two derivations of a sentence
 pub two_derivations : WitnessesHaveSentences

@@ -8,7 +8,7 @@ use Rattle.lalrpop_base.specs.Words.{Bits, has, Dotted, share, shift_conflict, c
 use Rattle.lalrpop_base.specs.Words.{reduce_conflicts, state_conflicts, place_in, productions, IsWellFormed, rules_of, AreAllConflicts}
 use Rattle.lalrpop_tables.specs.Words.{AreStatesOf, HasConflictsOf, canonical_of}
 use Rattle.lalrpop_base.specs.Words.{reductions_of, seen_reduction}
-use Rattle.lalrpop_states.specs.conflicts.StateConflicts.{Reduction}
+use Rattle.lalrpop_states.specs.conflicts.StateConflicts.{StateReduction}
 use Rattle.lalrpop_states.specs.declared.lr1_core.state.Conflict.{Conflict}
 use Rattle.lalrpop_states.specs.declared.lr1_core.state.State.{State}
 use Rattle.lalrpop_states.specs.declared.lr1_core.state.StateIndex.{StateIndex}
@@ -24,30 +24,30 @@ use Rattle.lalrpop_collections.proofs.theory.lists.Members.{Contains-none, conta
 use Rattle.lalrpop_explain.specs.Words.{AreOwnConflicts, AreOwnStates, IsOwnConflict, IsOwnError}
 
 -- ---- reductions by some productions, and conflicts of them
-abbrev AreOwn : List Production → List Reduction → Type 0
-AreOwn ps rs = (r : Reduction) → Contains rs r → Contains ps r.1.now
+abbrev AreOwn : List Production → List StateReduction → Type 0
+AreOwn ps rs = (r : StateReduction) → Contains rs r → Contains ps r.1.now
 
 module _ (ps : List Production) (terminals : List TerminalString) (number : StateIndex) where
-  own_on_place : (rs : List Reduction) → AreOwn ps rs → (t : TerminalString) (target : StateIndex) (o : Option ℕ) (c : Conflict Bits) → Contains (conflicts_on_place number t target rs o) c → IsOwnConflict ps c
+  own_on_place : (rs : List StateReduction) → AreOwn ps rs → (t : TerminalString) (target : StateIndex) (o : Option ℕ) (c : Conflict Bits) → Contains (conflicts_on_place number t target rs o) c → IsOwnConflict ps c
   own_on_place rs own t target None c i = absurd (Contains-none c i)
   own_on_place rs own t target (Some bit) c i =
-      let r = contains_of_map (shift_conflict number t target bit) (filter (λ (q : Reduction). has q.0 bit) rs) c i in
-      subst (IsOwnConflict ps) r.2 (record { production = own r.0 (of_kept (λ (q : Reduction). has q.0 bit) rs r.0 r.1); action = tt })
+      let r = contains_of_map (shift_conflict number t target bit) (filter (λ (q : StateReduction). has q.0 bit) rs) c i in
+      subst (IsOwnConflict ps) r.2 (record { production = own r.0 (of_kept (λ (q : StateReduction). has q.0 bit) rs r.0 r.1); action = tt })
 
-  own_shifts : (rs : List Reduction) → AreOwn ps rs → (es : List (TerminalString × StateIndex)) (c : Conflict Bits) → Contains (flat_map (shift_conflicts terminals number rs) es) c → IsOwnConflict ps c
+  own_shifts : (rs : List StateReduction) → AreOwn ps rs → (es : List (TerminalString × StateIndex)) (c : Conflict Bits) → Contains (flat_map (shift_conflicts terminals number rs) es) c → IsOwnConflict ps c
   own_shifts rs own [] c i = absurd (Contains-none c i)
   own_shifts rs own ((t, target) ∷ es) c i = elim (Contains-append_cases (conflicts_on_place number t target rs (place_in terminals t)) (flat_map (shift_conflicts terminals number rs) es) c i) [
     | inl here ↦ own_on_place rs own t target (place_in terminals t) c here
     | inr later ↦ own_shifts rs own es c later
   ]
 
-  own_reductions : (rs : List Reduction) → AreOwn ps rs → (c : Conflict Bits) → Contains (reduce_conflicts number rs) c → IsOwnConflict ps c
+  own_reductions : (rs : List StateReduction) → AreOwn ps rs → (c : Conflict Bits) → Contains (reduce_conflicts number rs) c → IsOwnConflict ps c
   own_reductions [] own c i = absurd (Contains-none c i)
   own_reductions (r ∷ rs) own c i = elim (Contains-append_cases (later_conflicts number r rs) (reduce_conflicts number rs) c i) [
-    | inl here ↦ let q = contains_of_map (reduce_conflict number r) (filter (λ (s : Reduction). share r.0 s.0) rs) c here in
+    | inl here ↦ let q = contains_of_map (reduce_conflict number r) (filter (λ (s : StateReduction). share r.0 s.0) rs) c here in
         subst (IsOwnConflict ps) q.2 (record {
           production = own r (contains_head r rs);
-          action = own q.0 (contains_tail r rs q.0 (of_kept (λ (s : Reduction). share r.0 s.0) rs q.0 q.1));
+          action = own q.0 (contains_tail r rs q.0 (of_kept (λ (s : StateReduction). share r.0 s.0) rs q.0 q.1));
         })
     | inr later ↦ own_reductions rs (λ q k. own q (contains_tail r rs q k)) c later
   ]

@@ -15,10 +15,10 @@ use Rattle.lalrpop_grammar.proofs.theory.grammars.NewStart.{Entry, listed, is_au
 use Rattle.lalrpop_grammar.proofs.theory.grammars.Augmented.{alone, from_old, one_more, augmented_trees, same_wrong}
 use Rattle.lalrpop_collections.proofs.theory.lists.Lists.{contains_head, contains_tail, some≢none}
 use Rattle.lalrpop_construction.specs.declared.options.Options.{Options}
-use Rattle.lalrpop_lr1.specs.Words.{productions_but, seen_over, IsAboveOld, IsTreeBelow, IsOutcomeBelow, TellsTreesBelow, IsToldByTablesAbove}
+use Rattle.lalrpop_lr1.specs.Words.{productions_but, seen_over, IsAboveOld, IsTreeBelow, IsOutcomeBelow, TellsTreesBelow, IsOutcomeByTablesAbove}
 use Rattle.lalrpop_parser.specs.Words.{IsTreeWithin}
 use Rattle.lalrpop_parser.specs.Words.{IsOutcomeFor, tree_of}
-use Rattle.lalrpop_lr1.specs.Words.{IsToldByTables, IfRefusedAt, TellsTrees, IsOutcomeTold}
+use Rattle.lalrpop_lr1.specs.Words.{IsOutcomeByTables, IfRefusedAt, TellsTrees, ReportsParseOutcome}
 use Rattle.lalrpop_lr1.specs.runs.AnyStart.{above}
 use Rattle.lalrpop_lr1.specs.declared.headline.parse_error.ParseError.{ParseError}
 use Rattle.lalrpop_lr1.specs.declared.headline.parse_error.ParseError.TheVariants.{Conflicts, Refused, Limit, Memory}
@@ -116,7 +116,7 @@ module _ (g h : List Production) (start f : NonterminalString) (aug : IsAugmente
   pub error_told : (e : ParseError) → TellsTrees limit w (Err e) h f → TellsTreesBelow limit w (Err e) g start
   error_told e told t parse = go e (told (Node f (beside t no_trees)) (from_old g h start f aug w t parse))
     where
-      go : (e : ParseError) → IsOutcomeTold (IsOutcomeFor (Node f (beside t no_trees)) limit) (Err e) → IsOutcomeTold (IsOutcomeBelow t limit) (Err e)
+      go : (e : ParseError) → ReportsParseOutcome (IsOutcomeFor (Node f (beside t no_trees)) limit) (Err e) → ReportsParseOutcome (IsOutcomeBelow t limit) (Err e)
       go (Conflicts error) k = tt
       go (Refused token) k = k
       go Limit k = let count = one_more g h start f aug t in omega (arith, k, count)
@@ -130,7 +130,7 @@ module _ (g h : List Production) (start f : NonterminalString) (aug : IsAugmente
 
 -- ---- what the run says
 module _ (h : Grammar) (options : Options) (f : NonterminalString) (w : List TerminalString) (limit : ℕ) (is_alone : IsOnNoRightSide (productions h) f) where
-  pub run_of_child : (tree child : ParseTree) → tree_of tree ≡ Node f (beside (tree_of child) no_trees) → IsToldByTables h options f w limit (Ok tree) → IsToldByTablesAbove h options f w limit (Ok child)
+  pub run_of_child : (tree child : ParseTree) → tree_of tree ≡ Node f (beside (tree_of child) no_trees) → IsOutcomeByTables h options f w limit (Ok tree) → IsOutcomeByTablesAbove h options f w limit (Ok child)
   run_of_child tree child is run = record {
     tables = run.tables;
     made = run.made;
@@ -138,7 +138,7 @@ module _ (h : Grammar) (options : Options) (f : NonterminalString) (w : List Ter
     told = subst (λ (t : Tree). HasOutcome (contents h.terminals run.tables) w limit (Parsed t)) is run.told;
   }
 
-  pub run_of_error : (e : ParseError) → IsToldByTables h options f w limit (Err e) → IsToldByTablesAbove h options f w limit (Err e)
+  pub run_of_error : (e : ParseError) → IsOutcomeByTables h options f w limit (Err e) → IsOutcomeByTablesAbove h options f w limit (Err e)
   run_of_error e run = record {
     tables = run.tables;
     made = run.made;
@@ -149,7 +149,7 @@ module _ (h : Grammar) (options : Options) (f : NonterminalString) (w : List Ter
       R : Outcome → Type 0
       R = HasOutcome (contents h.terminals run.tables) w limit
 
-      go : (e : ParseError) → IsOutcomeTold R (Err e) → IsOutcomeTold (λ o. R (above f o)) (Err e)
+      go : (e : ParseError) → ReportsParseOutcome R (Err e) → ReportsParseOutcome (λ o. R (above f o)) (Err e)
       go (Conflicts error) k = tt
       go (Refused token) k = k
       go Limit k = k

@@ -1,0 +1,5 @@
+pub mod Extents
+pub mod Groups
+pub mod Paragraphs
+pub mod SameKeys
+pub mod ShiftItems

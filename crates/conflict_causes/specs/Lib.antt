@@ -1,0 +1,4 @@
+pub mod Causes
+pub mod CauseTexts
+pub mod Extents
+pub mod Keys

@@ -1,0 +1,7 @@
+//! Tests of `conflict_causes`: small grammars, worked out by hand.
+#![tactic(auto)]
+
+#[cfg(test)]
+mod groups;
+#[cfg(test)]
+mod texts;
