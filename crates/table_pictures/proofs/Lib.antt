@@ -3,4 +3,8 @@ pub mod Entries
 pub mod FirstTokens
 pub mod InertTexts
 pub mod NoMarkup
+pub mod PairsBelow
+pub mod PathRounds
+pub mod ShortestPaths
 pub mod XmlTexts
+pub mod PicturedTexts

@@ -1,5 +1,5 @@
 -- An escaped text has no markup.
-use Rattle.std.proofs.Common.{◌≡◌, ◌<◌, ◌≤◌, ◌+◌, ◌==◌, ◌||◌, ℕ, Bool, true, false, List, [], cond, nat_lt, refl, sym, ap, ◌∙◌, arith, count_by, inl, inr}
+use Rattle.std.proofs.Common.{◌≡◌, ◌<◌, ◌≤◌, ◌+◌, ◌==◌, ◌&&◌, ◌||◌, ℕ, Bool, true, false, List, [], cond, nat_le, nat_lt, refl, sym, ap, ◌∙◌, arith, count_by, inl, inr}
 use Rattle.std.proofs.lemmas.Bool.{cases_lt}
 use Rattle.std.proofs.lemmas.Bool.Decides.{nat_tests}
 use Rattle.std.proofs.lemmas.List.{append-nil}
@@ -35,17 +35,18 @@ plain_none c none = elim (cases_lt c 128) [
   | inr high ↦ high_none c high
 ]
 
-pictured_none : (c : ℕ) (s t : Bool) → nat_lt c 32 ≡ s → (c == 127) ≡ t → (c == 60) ≡ false → (c == 62) ≡ false → (c == 34) ≡ false →
-    count_by is_markup (encode_utf8 (cond s (0x2400 + c) (cond t 0x2421 c))) ≡ 0
-pictured_none c true t e f a b d = high_none (0x2400 + c) (omega arith)
-pictured_none c false true e f a b d = high_none 0x2421 (omega arith)
-pictured_none c false false e f a b d = plain_none c (low_is_none c a b d e f)
+pictured_none : (c : ℕ) (s t u : Bool) → nat_lt c 32 ≡ s → (c == 127) ≡ t → (c == 60) ≡ false → (c == 62) ≡ false → (c == 34) ≡ false →
+    count_by is_markup (encode_utf8 (cond s (0x2400 + c) (cond t 0x2421 (cond u 0xFFFD c)))) ≡ 0
+pictured_none c true t u e f a b d = high_none (0x2400 + c) (omega arith)
+pictured_none c false true u e f a b d = high_none 0x2421 (omega arith)
+pictured_none c false false true e f a b d = high_none 0xFFFD (omega arith)
+pictured_none c false false false e f a b d = plain_none c (low_is_none c a b d e f)
 
 xml_char_none : (c : ℕ) → count_by is_markup (xml_char c) ≡ 0
 xml_char_none c =
     chosen is_markup (c == 38) _ _ refl (λ _. chosen is_markup (c == 60) _ _ refl (λ a. chosen is_markup (c == 62) _ _ refl (λ b. chosen is_markup (c == 34) _ _ refl (λ d.
     chosen is_markup (c == 92) _ _ refl (λ _.
-    chosen is_markup (c == 0xFFFE || c == 0xFFFF) _ _ (high_none 0xFFFD (omega arith)) (λ _. pictured_none c (nat_lt c 32) (c == 127) refl refl a b d))))))
+    chosen is_markup (c == 0xFFFE || c == 0xFFFF) _ _ (high_none 0xFFFD (omega arith)) (λ _. pictured_none c (nat_lt c 32) (c == 127) (nat_le 128 c && nat_lt c 160) refl refl a b d))))))
 
 -- a text as XML has no markup
 pub xml_has_none : (text : List ℕ) → count_by is_markup (xml_text text) ≡ 0

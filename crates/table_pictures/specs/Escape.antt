@@ -1,5 +1,5 @@
 -- Texts of a grammar, escaped for other texts.
-use Rattle.std.specs.Prelude.{ℕ, ◌+◌, ◌==◌, ◌||◌, nat_lt, Bool, List, [], ◌∷◌, codes, if◌then◌else◌}
+use Rattle.std.specs.Prelude.{ℕ, ◌+◌, ◌==◌, ◌||◌, nat_le, nat_lt, ◌&&◌, Bool, List, [], ◌∷◌, codes, if◌then◌else◌}
 use Rattle.std.specs.Char.{encode_utf8}
 use Rattle.std.specs.List.{flat_map}
 use Rattle.std.specs.Str.{chars}
@@ -17,10 +17,22 @@ is_opening b = b == 60
 abbrev pub inert : List ℕ → List ℕ
 inert json = flat_map inert_byte json
 
--- a character as it is shown: a control character below the space, or U+007F, by its picture, and
--- any other as it is
+-- a character as it is shown: a control character below the space, or U+007F, by its picture, one from
+-- U+0080 to U+009F by U+FFFD, and any other as it is
 abbrev pub pictured : ℕ → ℕ
-pictured c = if nat_lt c 32 then 0x2400 + c else if c == 127 then 0x2421 else c
+pictured c = if nat_lt c 32 then 0x2400 + c else if c == 127 then 0x2421 else if nat_le 128 c && nat_lt c 160 then 0xFFFD else c
+
+-- a text with each control character shown by its picture
+abbrev pub pictured_text : List ℕ → List ℕ
+pictured_text text = flat_map (λ (c : ℕ). encode_utf8 (pictured c)) (chars text)
+
+-- a character of a text of several lines: the end of a line, or another one as it is shown
+abbrev pub line_char : ℕ → List ℕ
+line_char c = if c == 10 then codes "\n" else encode_utf8 (pictured c)
+
+-- a text of several lines with each control character in its lines shown by its picture
+abbrev pub pictured_lines : List ℕ → List ℕ
+pictured_lines text = flat_map line_char (chars text)
 
 -- a character as XML: `&`, `<`, `>` and `"` by their names, a backslash twice, the two characters
 -- that XML does not have by U+FFFD, a control character by its picture, and any other as it is

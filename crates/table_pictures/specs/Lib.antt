@@ -1,6 +1,10 @@
+pub mod ConflictStates
+pub mod EdgePairs
 pub mod Edges
 pub mod Escape
 pub mod Graphs
 pub mod Nodes
 pub mod Page
+pub mod Paths
+pub mod Rounds
 pub mod Symbols

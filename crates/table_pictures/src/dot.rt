@@ -1,11 +1,12 @@
 //! The graph of the states, for Graphviz.
 ghost use Rattle.std.specs.Prelude.{◌≡◌, ◌++◌, IfOk, OnOk, string_bytes};
 ghost use Rattle.std.specs.List.{flat_map};
-ghost use Rattle.table_pictures.specs.Edges.{edges, shown_of};
+ghost use Rattle.table_pictures.specs.Edges.{graph_edges};
 ghost use Rattle.table_pictures.specs.Graphs.{edge_count, graph, layout_of, leads_by, leads_there, shown_node, shows_state};
 
 use super::edges::{Shown, push_edges};
 use super::nodes::push_node;
+use super::rounds::flag_at;
 use lalrpop_base::lr1_core::state::{Lr1Conflict, Lr1State, StateIndex};
 use lalrpop_base::memory::OutOfMemory;
 use lalrpop_base::repr::NonterminalString;
@@ -13,20 +14,18 @@ use lalrpop_base::repr::terminals::TerminalSet;
 use std::alloc::Global;
 use std::collections::BTreeMap;
 
-/// The text of the graph of all states, or of the state with the number `around` and its
-/// neighbours. `OutOfMemory` if an allocation fails.
+/// The text of the graph of the states that are shown. `OutOfMemory` if an allocation fails.
 pub fn graph_text<'grammar>(
     alloc: Global,
     start: &NonterminalString,
     terminals: &TerminalSet,
     states: &[Lr1State<'grammar>],
     conflicts: &[Lr1Conflict<'grammar>],
-    around: Option<usize>,
+    shown: &Shown,
 ) -> Result<String, OutOfMemory>
     ensures { IfOk result (λ text. string_bytes text ≡ graph start.now terminals.now states.now
-        conflicts.now (shown_of around)) }
+        conflicts.now shown.now) }
 {
-    let shown = Shown::around(around);
     let mut text = String::new(alloc);
     text.push_str(OPENING)?;
     text.push_str(layout(states, shown))?;
@@ -45,17 +44,17 @@ const OPENING: &str =
 const MOST_EDGES: usize = 200;
 
 // How a graph is laid out. A graph of all states goes from top to bottom, with straight edges if
-// there are many. A graph of one state goes from left to right, so that its many neighbours are one
-// below the other.
-fn layout(states: &[Lr1State<'_>], shown: Shown) -> &'static str
-    ensures { result.now ≡ layout_of states.now shown }
+// there are many. A graph of some states goes from left to right, so that the many neighbours of a
+// state are one below the other.
+fn layout(states: &[Lr1State<'_>], shown: &Shown) -> &'static str
+    ensures { result.now ≡ layout_of states.now shown.now }
 {
     match shown {
         Shown::All if edge_count(states) > MOST_EDGES => {
             "  graph [splines=line nslimit=1 nslimit1=1 mclimit=0.2];\n"
         }
         Shown::All => "",
-        Shown::Around(_) => "  rankdir=LR;\n",
+        Shown::Around(_) | Shown::Only(_) => "  rankdir=LR;\n",
     }
 }
 
@@ -80,10 +79,10 @@ fn push_nodes<'grammar>(
     states: &[Lr1State<'grammar>],
     conflicts: &[Lr1Conflict<'grammar>],
     terminals: &TerminalSet,
-    shown: Shown,
+    shown: &Shown,
 ) -> Result<(), OutOfMemory>
     ensures { OnOk result (string_bytes text.new ≡ string_bytes text.old ++ flat_map
-        (shown_node start.now terminals.now states.now conflicts.now shown) states.now) }
+        (shown_node start.now terminals.now states.now conflicts.now shown.now) states.now) }
 {
     for state in states {
         push_shown_node(
@@ -101,11 +100,11 @@ fn push_shown_node<'grammar>(
     states: &[Lr1State<'grammar>],
     conflicts: &[Lr1Conflict<'grammar>],
     terminals: &TerminalSet,
-    shown: Shown,
+    shown: &Shown,
     state: &Lr1State<'grammar>,
 ) -> Result<(), OutOfMemory>
     ensures { OnOk result (string_bytes text.new ≡ string_bytes text.old ++ shown_node start.now
-        terminals.now states.now conflicts.now shown state.now) }
+        terminals.now states.now conflicts.now shown.now state.now) }
 {
     if is_shown(states, shown, state) {
         push_node(alloc, text, start, state, conflicts, terminals)?;
@@ -114,12 +113,13 @@ fn push_shown_node<'grammar>(
 }
 
 // Whether a state is shown.
-fn is_shown(states: &[Lr1State<'_>], shown: Shown, state: &Lr1State<'_>) -> bool
-    ensures { result ≡ shows_state states.now shown state.now }
+fn is_shown(states: &[Lr1State<'_>], shown: &Shown, state: &Lr1State<'_>) -> bool
+    ensures { result ≡ shows_state states.now shown.now state.now }
 {
     match shown {
         Shown::All => true,
-        Shown::Around(number) => is_near(states, number, state),
+        Shown::Around(number) => is_near(states, *number, state),
+        Shown::Only(flags) => flag_at(flags, state.index.0, false),
     }
 }
 
@@ -152,10 +152,10 @@ fn push_all_edges<'grammar>(
     text: &mut String,
     states: &[Lr1State<'grammar>],
     conflicts: &[Lr1Conflict<'grammar>],
-    shown: Shown,
+    shown: &Shown,
 ) -> Result<(), OutOfMemory>
     ensures { OnOk result (string_bytes text.new ≡ string_bytes text.old ++ flat_map
-        (edges conflicts.now shown) states.now) }
+        (graph_edges conflicts.now shown.now) states.now) }
 {
     for state in states {
         push_edges(text, state, conflicts, shown)?;

@@ -1,39 +1,34 @@
 //! The edges of a graph. Each leads from a state to a state, by the symbol of the node there.
 ghost use Rattle.std.specs.Prelude.{◌≡◌, ◌++◌, OnOk, string_bytes};
 ghost use Rattle.std.specs.List.{flat_map, list_any};
-ghost use Rattle.table_pictures.specs.Edges.{edges, goto_line, is_shift_conflict, shift_line, shown_edge, shown_goto, shown_of, shown_shift, shows_edge};
+ghost use Rattle.table_pictures.specs.Edges.{graph_edges, graph_goto_line, is_shift_conflict, graph_shift_line, shown_edge, shown_goto, shown_shift, shows_edge};
 
+use crate::rounds::flag_at;
 use lalrpop_base::lr1_core::state::{Action, Lr1Conflict, Lr1State, StateIndex};
 use lalrpop_base::memory::OutOfMemory;
 use lalrpop_base::repr::{NonterminalString, TerminalString};
 use std::collections::BTreeMap;
 
 /// The states and edges that are shown.
-#[derive(Clone, Copy)]
-pub(crate) enum Shown {
+#[derive(Drop)]
+pub enum Shown {
+    /// All states, and all edges.
     All,
     /// The state with a number and its neighbours, and the edges that begin or end at that state.
     Around(usize),
+    /// The states whose numbers have flags that are set, and the edges between these states.
+    Only(Vec<bool>),
 }
 
 impl Shown {
-    /// All states, or the state with the number and its neighbours.
-    pub(crate) fn around(number: Option<usize>) -> Shown
-        ensures { result ≡ shown_of number }
-    {
-        match number {
-            None => Shown::All,
-            Some(number) => Shown::Around(number),
-        }
-    }
-
     /// Whether an edge from one state to another is shown.
-    pub(crate) fn has_edge(self, from: usize, to: usize) -> bool
-        ensures { result ≡ shows_edge self from to }
+    pub(crate) fn has_edge(&self, from: usize, to: usize) -> bool
+        ensures { result ≡ shows_edge self.now from to }
     {
         match self {
             Shown::All => true,
-            Shown::Around(number) => from == number || to == number,
+            Shown::Around(number) => from == *number || to == *number,
+            Shown::Only(flags) => flag_at(flags, from, false) && flag_at(flags, to, false),
         }
     }
 }
@@ -43,10 +38,11 @@ pub(crate) fn push_edges(
     text: &mut String,
     state: &Lr1State<'_>,
     conflicts: &[Lr1Conflict<'_>],
-    shown: Shown,
+    shown: &Shown,
 ) -> Result<(), OutOfMemory>
     ensures { OnOk result
-        (string_bytes text.new ≡ string_bytes text.old ++ edges conflicts.now shown state.now) }
+        (string_bytes text.new ≡
+        string_bytes text.old ++ graph_edges conflicts.now shown.now state.now) }
 {
     push_shifts(text, state.index, &state.shifts, conflicts, shown)?;
     push_gotos(text, state.index, &state.gotos, shown)?;
@@ -59,10 +55,10 @@ fn push_shifts(
     from: StateIndex,
     shifts: &BTreeMap<TerminalString, StateIndex>,
     conflicts: &[Lr1Conflict<'_>],
-    shown: Shown,
+    shown: &Shown,
 ) -> Result<(), OutOfMemory>
     ensures { OnOk result (string_bytes text.new ≡ string_bytes text.old ++ flat_map
-        (shown_shift conflicts.now shown from.0) shifts.now.entries) }
+        (shown_shift conflicts.now shown.now from.0) shifts.now.entries) }
 {
     for (terminal, target) in shifts.iter() {
         push_shown_shift(text, from, terminal, *target, conflicts, shown)?;
@@ -77,10 +73,10 @@ fn push_shown_shift(
     terminal: &TerminalString,
     target: StateIndex,
     conflicts: &[Lr1Conflict<'_>],
-    shown: Shown,
+    shown: &Shown,
 ) -> Result<(), OutOfMemory>
     ensures { OnOk result (string_bytes text.new ≡ string_bytes text.old ++ shown_shift
-        conflicts.now shown from.0 (terminal.now, target)) }
+        conflicts.now shown.now from.0 (terminal.now, target)) }
 {
     if !shown.has_edge(from.0, target.0) {
         return Ok(());
@@ -119,7 +115,7 @@ fn push_shift(
     is_red: bool,
 ) -> Result<(), OutOfMemory>
     ensures { OnOk result
-        (string_bytes text.new ≡ string_bytes text.old ++ shift_line is_red from.0 target.0) }
+        (string_bytes text.new ≡ string_bytes text.old ++ graph_shift_line is_red from.0 target.0) }
 {
     if is_red {
         write!(text, "  {from} -> {target} [color=red];\n")?;
@@ -134,10 +130,10 @@ fn push_gotos(
     text: &mut String,
     from: StateIndex,
     gotos: &BTreeMap<NonterminalString, StateIndex>,
-    shown: Shown,
+    shown: &Shown,
 ) -> Result<(), OutOfMemory>
     ensures { OnOk result (string_bytes text.new ≡ string_bytes text.old ++ flat_map
-        (shown_goto shown from.0) gotos.now.entries) }
+        (shown_goto shown.now from.0) gotos.now.entries) }
 {
     for (_, target) in gotos.iter() {
         push_shown_goto(text, from, *target, shown)?;
@@ -150,10 +146,10 @@ fn push_shown_goto(
     text: &mut String,
     from: StateIndex,
     target: StateIndex,
-    shown: Shown,
+    shown: &Shown,
 ) -> Result<(), OutOfMemory>
     ensures { OnOk result
-        (string_bytes text.new ≡ string_bytes text.old ++ shown_edge shown from.0 target) }
+        (string_bytes text.new ≡ string_bytes text.old ++ shown_edge shown.now from.0 target) }
 {
     if !shown.has_edge(from.0, target.0) {
         return Ok(());
@@ -165,7 +161,7 @@ fn push_shown_goto(
 // Appends the edge of a goto.
 fn push_goto(text: &mut String, from: StateIndex, target: StateIndex) -> Result<(), OutOfMemory>
     ensures { OnOk result
-        (string_bytes text.new ≡ string_bytes text.old ++ goto_line from.0 target.0) }
+        (string_bytes text.new ≡ string_bytes text.old ++ graph_goto_line from.0 target.0) }
 {
     write!(text, "  {from} -> {target} [style=dashed];\n")?;
     Ok(())

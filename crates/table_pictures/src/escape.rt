@@ -1,11 +1,11 @@
 //! Escaping texts of a grammar for XML and HTML.
 ghost use Rattle.std.specs.Prelude.{◌≡◌, ◌++◌, OnOk, count_by, string_bytes};
-ghost use Rattle.table_pictures.specs.Escape.{inert, is_markup, is_opening, pictured, xml_char, xml_text};
+ghost use Rattle.table_pictures.specs.Escape.{inert, is_markup, is_opening, line_char, pictured, pictured_lines, pictured_text, xml_char, xml_text};
 
 use lalrpop_base::memory::OutOfMemory;
 
-/// Appends a text as XML, for a label of Graphviz. A control character is shown by its picture. A
-/// character that XML does not have is shown by the replacement character U+FFFD. A backslash is
+/// Appends a text as XML, for a label of Graphviz. A control character is shown by its picture. One
+/// without a picture, or a character that XML does not have, is shown by U+FFFD. A backslash is
 /// written twice, since Graphviz replaces some letters after a backslash by other texts.
 pub(crate) fn push_xml(text: &mut String, shown: &str) -> Result<(), OutOfMemory>
     ensures text { OnOk result
@@ -35,8 +35,42 @@ fn push_xml_char(text: &mut String, c: char) -> Result<(), OutOfMemory>
     Ok(())
 }
 
-// The picture of a control character, or any other character as it is.
-fn visible(c: char) -> char
+/// Appends a text with each control character shown by its picture.
+pub fn push_visible(text: &mut String, shown: &str) -> Result<(), OutOfMemory>
+    ensures { OnOk result (string_bytes text.new ≡ string_bytes text.old ++ pictured_text shown.now) }
+{
+    for c in shown.chars() {
+        text.push(visible(c))?;
+    }
+    Ok(())
+}
+
+/// Appends a text of several lines with each control character shown by its picture. The ends of
+/// lines stay.
+pub fn push_visible_lines(text: &mut String, shown: &str) -> Result<(), OutOfMemory>
+    ensures { OnOk result
+        (string_bytes text.new ≡ string_bytes text.old ++ pictured_lines shown.now) }
+{
+    for c in shown.chars() {
+        push_line_char(text, c)?;
+    }
+    Ok(())
+}
+
+// Appends the end of a line, or another character as it is shown.
+fn push_line_char(text: &mut String, c: char) -> Result<(), OutOfMemory>
+    ensures { OnOk result (string_bytes text.new ≡ string_bytes text.old ++ line_char c) }
+{
+    match c {
+        '\n' => text.push_str("\n")?,
+        _ => text.push(visible(c))?,
+    }
+    Ok(())
+}
+
+/// The picture of a control character, or any other character as it is. U+FFFD is the picture of the
+/// control characters from U+0080 on.
+pub fn visible(c: char) -> char
     ensures { result ≡ pictured c }
 {
     let code = c as u32;
@@ -45,6 +79,9 @@ fn visible(c: char) -> char
     }
     if code == 127 {
         return '\u{2421}';
+    }
+    if code >= 128 && code < 160 {
+        return '\u{FFFD}';
     }
     c
 }

@@ -2,11 +2,15 @@
 #![tactic(auto)]
 
 pub mod dot;
-mod edges;
+mod edge_pairs;
+pub mod edges;
 pub mod escape;
 mod finding;
+pub mod near;
 mod nodes;
 pub mod page;
+mod rounds;
 mod script;
 mod style;
 mod symbols;
+pub mod to_conflicts;

@@ -93,8 +93,8 @@ fn is_accepting(reductions: &[(TokenSet, &Production)], start: &NonterminalStrin
     reductions.iter().any(|r| &r.1.nonterminal == start)
 }
 
-// Whether a state has a conflict.
-fn is_in_conflict(number: StateIndex, conflicts: &[Lr1Conflict<'_>]) -> bool
+/// Whether a state has a conflict.
+pub(crate) fn is_in_conflict(number: StateIndex, conflicts: &[Lr1Conflict<'_>]) -> bool
     ensures { result ≡ has_conflict conflicts.now number.0 }
 {
     conflicts.iter().any(|c| c.state.0 == number.0)

@@ -115,18 +115,11 @@ data.conflicts.forEach((c, at) => {
   conflictsIn.get(c.state).push(at);
 });
 // Conflicts have one cause if they have the same actions by the same items.
-const causeOf = (c) => JSON.stringify(
-  c.actions.map((a) => [a.shift ?? a.reduce, a.items.map((i) => [i.production, i.dot])]));
-const causes = new Map();
-data.conflicts.forEach((c, at) => {
-  const cause = causeOf(c);
-  const none = { conflicts: [], states: new Set(), tokens: new Set() };
-  const it = causes.get(cause) ?? none;
-  causes.set(cause, it);
-  it.conflicts.push(at);
-  it.states.add(c.state);
-  c.lookahead.forEach((t) => it.tokens.add(t));
-});
+const all = data.causes.map((it) => ({
+  ...it,
+  states: new Set(it.conflicts.map((at) => data.conflicts[at].state)),
+  tokens: new Set(it.conflicts.flatMap((at) => data.conflicts[at].lookahead)),
+}));
 // Of each production, the states that reduce by it.
 const reducedIn = new Map(data.productions.map((p) => [p.number, []]));
 for (const s of data.states) {
@@ -134,7 +127,8 @@ for (const s of data.states) {
 }
 
 const line = (...parts) => part("div", "line", ...parts);
-const isWhole = (tokens) => tokens.length > data.terminals.length;
+// The tokens of an item are `null` if it has all.
+const isWhole = (tokens) => tokens === null || tokens.length > data.terminals.length;
 // Items of lane tables have all tokens, which says nothing.
 const itemsAreWhole = data.states.every((s) => s.items.every((i) => isWhole(i.lookahead)));
 function lookahead(tokens) {
@@ -178,11 +172,21 @@ function drawAction(action) {
   ]);
   return part("div", "", head, ...items);
 }
+// One input with two derivations, or how the search for one ended.
+const SEARCHES = { exhausted: "all was searched", cut: "the search was cut" };
+function drawWitness(cause) {
+  if (cause.search !== "found") {
+    return [part("p", "", `No input with two derivations was found: ${SEARCHES[cause.search]}.`)];
+  }
+  const texts = cause.derivations.map((it) => part("div", "witness", it));
+  return [part("p", "", "One input, two derivations:"), ...texts];
+}
 // A cause of conflicts, with the examples of its first conflict.
 function drawCause(cause, it) {
   const [first, ...others] = cause.conflicts;
   it.append(part("p", "", "in", ...some([...cause.states], (n) => link(n)), ", on",
     ...spaced([...cause.tokens].map(token))));
+  it.append(...drawWitness(cause));
   if (others.length) {
     const state = data.conflicts[first].state;
     it.append(part("p", "", `Drawn is conflict ${first + 1}, in `, link(state),
@@ -247,7 +251,6 @@ function drawCauses(all) {
   folded.prepend(part("summary", "", `${all.length - SHOWN} more causes`));
   return [front, folded];
 }
-const all = [...causes.values()];
 // The number of the first conflict by the same cause.
 const firstOf = new Map(all.flatMap((it) => it.conflicts.map((at) => [at, it.conflicts[0]])));
 if (all.length > 1) {
@@ -258,8 +261,13 @@ if (all.length > 1) {
   document.getElementById("conflicts").append(index);
 }
 fill("conflicts", all.length ? drawCauses(all) : []);
-fill("productions",
-  [...data.productions].sort((a, b) => a.number - b.number).map(drawProduction));
+// The productions, which are folded if there are many.
+function drawProductions() {
+  const all = [...data.productions].sort((a, b) => a.number - b.number).map(drawProduction);
+  if (all.length <= 2 * SHOWN) return all;
+  return [part("details", "", part("summary", "", `${all.length} productions`), ...all)];
+}
+fill("productions", drawProductions());
 if (itemsAreWhole && data.states.length) {
   document.getElementById("states").append(part("p", "",
     "Items show no tokens, since each item has all. The lookaheads stand at the reductions."));

@@ -29,7 +29,7 @@ a, h3 { white-space: nowrap; }
 a:focus-visible, article:focus-visible, input:focus-visible, .tree:focus-visible {
   outline: 3px solid var(--name); outline-offset: 2px;
 }
-.line, .tree, .index, #found { font-family: ui-monospace, monospace; font-size: .9rem; }
+.line, .tree, .index, .witness, #found { font-family: ui-monospace, monospace; font-size: .9rem; }
 .terminal { color: var(--terminal); unicode-bidi: isolate; }
 .terminal:not(.long) { white-space: nowrap; }
 .nonterminal { color: var(--name); }
@@ -40,7 +40,7 @@ details > summary { margin: .4rem 0; cursor: pointer; }
   margin: 0 1px; padding: 0 .2em; border: 1px dotted; border-radius: .2em; font-size: .75em;
 }
 .dot { color: var(--bad); font-weight: 700; }
-.line { padding-left: 2ch; text-indent: -2ch; }
+.line, .witness { padding-left: 2ch; text-indent: -2ch; }
 .tokens { margin-left: 1ch; }
 .tokens, .tokens .terminal { color: var(--soft); }
 #find {

@@ -1,0 +1,23 @@
+use Rattle.std.proofs.Common.{◌++◌, sym, ap, ◌∙◌, string_bytes, append_assoc}
+use Rattle.std.proofs.lemmas.List.{append-nil}
+use Rattle.std.proofs.lemmas.Str.{IsUtf8-past_char}
+use Rattle.std.specs.Char.{encode_utf8}
+use Rattle.std.specs.Str.Iter.{chars_rest}
+use Rattle.table_pictures.specs.Escape.{pictured, pictured_text}
+use Rattle.table_pictures.proofs.PicturedTexts.{pictured_more, pictured_nil}
+use Rattle.table_pictures.proofs.escape.push_visible.Goals as goal
+
+pub loop-c-preserved : goal.loop-c-preserved
+loop-c-preserved c =
+    let before = chars_rest c.loop-c.c-iterator in
+    let after = chars_rest c.next.new.self in
+    let came = c.in-Some.ensures.steps.0 in
+    let text = c.loop-c.invariant.0 in (
+      IsUtf8-past_char before after c.in-Some.c text came,
+      ap (λ t. t ++ pictured_text after) (c.in_ok-push.ensures.bytes ∙ ap (λ p. string_bytes c.loop-c.text ++ encode_utf8 p) c.visible.ensures) ∙ append_assoc _ (encode_utf8 (pictured c.in-Some.c)) _ ∙ ap (λ t. string_bytes c.loop-c.text ++ t) (sym (pictured_more before after c.in-Some.c text came)) ∙ c.loop-c.invariant.1,
+    )
+
+pub returns : goal.returns
+returns c =
+    let none = pictured_nil (chars_rest c.loop-c.c-iterator) c.in-None.ensures.steps.0.0 in
+    sym (append-nil _) ∙ ap (λ t. string_bytes c.loop-c.text ++ t) (sym none) ∙ c.loop-c.invariant.1
