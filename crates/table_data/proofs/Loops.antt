@@ -2,7 +2,7 @@
 use Rattle.std.proofs.Common.{◌≡◌, ◌+◌, ◌<◌, ◌++◌, ◌∙◌, ◌∷◌, [], ℕ, List, ap, sym, refl, codes, append_assoc, append-nil, get_or, length, map, take}
 use Rattle.std.proofs.lemmas.List.{flat_map_more, take_more}
 use Rattle.std.specs.List.{flat_map}
-use Rattle.table_data.specs.Json.{array, behind, listed}
+use Rattle.table_data.specs.Json.{array, after_separator, separated}
 
 -- if a list has those of the first i items and grows by those of item i, it has those of the first
 -- i + 1
@@ -15,25 +15,25 @@ one_more f xs i x start now next inside same so_far grew =
 -- loop still has to write
 abbrev pub going : {X : Type 0} → List ℕ → (X → List ℕ) → List X → List ℕ
 going separator text [] = []
-going separator text (x ∷ xs) = behind separator text x ++ flat_map (behind (codes ",") text) xs
+going separator text (x ∷ xs) = after_separator separator text x ++ flat_map (after_separator (codes ",") text) xs
 
 -- before the first step, the whole list is left to be written, without a separator before it
-pub going_listed : {X : Type 0} (text : X → List ℕ) (xs : List X) → going [] text xs ≡ listed (codes ",") text xs
+pub going_listed : {X : Type 0} (text : X → List ℕ) (xs : List X) → going [] text xs ≡ separated (codes ",") text xs
 going_listed text [] = refl
 going_listed text (x ∷ xs) = refl
 
 -- after the first value, each value comes after a comma
-pub going_on : {X : Type 0} (text : X → List ℕ) (xs : List X) → going (codes ",") text xs ≡ flat_map (behind (codes ",") text) xs
+pub going_on : {X : Type 0} (text : X → List ℕ) (xs : List X) → going (codes ",") text xs ≡ flat_map (after_separator (codes ",") text) xs
 going_on text [] = refl
 going_on text (x ∷ xs) = refl
 
 -- after one value more was written, the rest is left to be written
-pub going_step : {X : Type 0} (text : X → List ℕ) (separator : List ℕ) (left rest : List X) (x : X) (now next whole : List ℕ) → left ≡ x ∷ rest → next ≡ now ++ behind separator text x → now ++ going separator text left ≡ whole →
+pub going_step : {X : Type 0} (text : X → List ℕ) (separator : List ℕ) (left rest : List X) (x : X) (now next whole : List ℕ) → left ≡ x ∷ rest → next ≡ now ++ after_separator separator text x → now ++ going separator text left ≡ whole →
     next ++ going (codes ",") text rest ≡ whole
 going_step text separator left rest x now next whole split grew so_far =
     ap (λ t. next ++ t) (going_on text rest)
-    ∙ ap (λ t. t ++ flat_map (behind (codes ",") text) rest) grew
-    ∙ append_assoc now (behind separator text x) (flat_map (behind (codes ",") text) rest)
+    ∙ ap (λ t. t ++ flat_map (after_separator (codes ",") text) rest) grew
+    ∙ append_assoc now (after_separator separator text x) (flat_map (after_separator (codes ",") text) rest)
     ∙ ap (λ t. now ++ going separator text t) (sym split)
     ∙ so_far
 
@@ -56,9 +56,9 @@ pub from_nothing : (start all last : List ℕ) → start ≡ [] → last ≡ sta
 from_nothing start all last none grew = grew ∙ ap (λ t. t ++ all) none
 
 -- the texts of the images of values, each after a separator, are those of the list of images
-others_of : {X Y : Type 0} (separator : List ℕ) (text : Y → List ℕ) (of : X → Y) (xs : List X) → flat_map (behind separator (λ x. text (of x))) xs ≡ flat_map (behind separator text) (map of xs)
+others_of : {X Y : Type 0} (separator : List ℕ) (text : Y → List ℕ) (of : X → Y) (xs : List X) → flat_map (after_separator separator (λ x. text (of x))) xs ≡ flat_map (after_separator separator text) (map of xs)
 others_of separator text of [] = refl
-others_of separator text of (x ∷ xs) = ap (λ t. behind separator text (of x) ++ t) (others_of separator text of xs)
+others_of separator text of (x ∷ xs) = ap (λ t. after_separator separator text (of x) ++ t) (others_of separator text of xs)
 
 pub array_of : {X Y : Type 0} (separator : List ℕ) (text : Y → List ℕ) (of : X → Y) (xs : List X) → array separator (λ x. text (of x)) xs ≡ array separator text (map of xs)
 array_of separator text of [] = refl

@@ -67,16 +67,16 @@ abbrev pub reduced_places : Production → List (ℕ × ℕ)
 reduced_places p = (p.action.0, length p.symbols) ∷ []
 
 -- the numbers and places of the items of an action in a state
-abbrev pub places_of : List (State Bits) → StateIndex → Action → List (ℕ × ℕ)
-places_of states state (Shift t target) = shifted_places t (items_at (slice_get states state.0))
-places_of states state (Reduce p) = reduced_places p.now
+abbrev pub action_places : List (State Bits) → StateIndex → Action → List (ℕ × ℕ)
+action_places states state (Shift t target) = shifted_places t (items_at (slice_get states state.0))
+action_places states state (Reduce p) = reduced_places p.now
 
 -- the items that are shown of a conflict are those of its actions
-pub record IsShown (states : List (State Bits)) (shown : ShownConflict) : Type 0 where
+pub record ShowsItems (states : List (State Bits)) (shown : ShownConflict) : Type 0 where
   pub reduction : map place_of_shown shown.reduction.items ≡ reduced_places shown.conflict.now.production.now
-  pub other : map place_of_shown shown.other.items ≡ places_of states shown.conflict.now.state shown.conflict.now.action
+  pub other : map place_of_shown shown.other.items ≡ action_places states shown.conflict.now.state shown.conflict.now.action
 
 -- all conflicts are shown, in their order, each with the items of its actions
 pub record AreShown (states : List (State Bits)) (conflicts : List (Conflict Bits)) (shown : List ShownConflict) : Type 0 where
   pub each : map (λ (s : ShownConflict). s.conflict.now) shown ≡ conflicts
-  pub items : All (IsShown states) shown
+  pub items : All (ShowsItems states) shown

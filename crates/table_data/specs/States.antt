@@ -1,8 +1,8 @@
 -- States as JSON.
-use Rattle.std.specs.Prelude.{ℕ, List, ◌++◌, codes}
+use Rattle.std.specs.Prelude.{ℕ, nat_lt, List, ◌++◌, length, codes, if◌then◌else◌}
 use Rattle.std.specs.Fmt.{decimal}
 use Rattle.std.specs.Borrow.{Bor}
-use Rattle.lalrpop_base.specs.Words.{Bits, Dotted}
+use Rattle.lalrpop_base.specs.Words.{Bits, Dotted, rising}
 use Rattle.lalrpop_grammar.specs.declared.repr.Production.{Production}
 use Rattle.lalrpop_grammar.specs.declared.repr.TerminalString.{TerminalString}
 use Rattle.lalrpop_states.specs.declared.lr1_core.state.State.{State}
@@ -10,10 +10,15 @@ use Rattle.table_data.specs.Json.{array, member, object}
 use Rattle.table_data.specs.Names.{name_json, terminal_json, tokens_json}
 
 module _ (terminals : List TerminalString) where
+  -- the tokens of an item, or null if it has more tokens than there are terminals: each terminal, and
+  -- the end of the input
+  abbrev pub lookahead_json : Bits → List ℕ
+  lookahead_json set = if nat_lt (length terminals) (length (rising set)) then codes "null" else tokens_json terminals set
+
   -- an item: the number of its production, the place of its dot and its tokens
   abbrev pub item_json : Dotted Bits → List ℕ
   item_json item = codes "{\"production\":" ++ (decimal item.production.action.0 ++ (codes ",\"dot\":" ++ (decimal item.index
-      ++ (codes ",\"lookahead\":" ++ (tokens_json terminals item.lookahead ++ codes "}")))))
+      ++ (codes ",\"lookahead\":" ++ (lookahead_json item.lookahead ++ codes "}")))))
 
   -- a reduction: the number of its production, and the tokens on which it is made
   abbrev pub reduction_json : Bits × Bor Production → List ℕ

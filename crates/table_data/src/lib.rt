@@ -1,12 +1,13 @@
 //! Tables and conflicts as JSON, for other tools.
 #![tactic(auto)]
 
+pub mod causes;
 mod conflicts;
 mod examples;
 mod lists;
 mod names;
 mod rules;
 mod states;
-mod to_json;
+pub mod to_json;
 mod walks;
 pub mod whole;

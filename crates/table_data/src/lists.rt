@@ -1,7 +1,7 @@
 //! Arrays of JSON, and objects of the states to which symbols lead.
 ghost use Rattle.std.specs.Prelude.{◌≡◌, ◌++◌, OnOk, codes, string_bytes};
 ghost use Rattle.std.specs.List.{flat_map};
-ghost use Rattle.table_data.specs.Json.{array, behind, listed, member, object};
+ghost use Rattle.table_data.specs.Json.{array, after_separator, separated, member, object};
 
 use super::to_json::ToJson;
 use lalrpop_base::lr1_core::state::StateIndex;
@@ -36,7 +36,7 @@ fn push_listed<T: ToJson>(
     values: &[T],
     terminals: &TerminalSet,
 ) -> Result<(), OutOfMemory>
-    ensures { OnOk result (string_bytes text.new ≡ string_bytes text.old ++ listed separator.now
+    ensures { OnOk result (string_bytes text.new ≡ string_bytes text.old ++ separated separator.now
         (T.json terminals.now) values.now) }
 {
     let [first, others @ ..] = values else {
@@ -56,7 +56,7 @@ fn push_others<T: ToJson>(
     terminals: &TerminalSet,
 ) -> Result<(), OutOfMemory>
     ensures { OnOk result (string_bytes text.new ≡ string_bytes text.old ++ flat_map
-        (behind separator.now (T.json terminals.now)) values.now) }
+        (after_separator separator.now (T.json terminals.now)) values.now) }
 {
     for value in values {
         push_other(alloc, text, separator, value, terminals)?;
@@ -72,8 +72,8 @@ fn push_other<T: ToJson>(
     value: &T,
     terminals: &TerminalSet,
 ) -> Result<(), OutOfMemory>
-    ensures { OnOk result (string_bytes text.new ≡ string_bytes text.old ++ behind separator.now
-        (T.json terminals.now) value.now) }
+    ensures { OnOk result (string_bytes text.new ≡
+        string_bytes text.old ++ after_separator separator.now (T.json terminals.now) value.now) }
 {
     text.push_str(separator)?;
     value.push_json(alloc, text, terminals)?;
@@ -109,7 +109,8 @@ fn push_target<K: ToJson>(
     target: StateIndex,
     terminals: &TerminalSet,
 ) -> Result<(), OutOfMemory>
-    ensures { OnOk result (string_bytes text.new ≡ string_bytes text.old ++ behind separator.now
+    ensures { OnOk result (string_bytes text.new ≡
+        string_bytes text.old ++ after_separator separator.now
         (member (K.json terminals.now)) (symbol.now, target)) }
 {
     text.push_str(separator)?;

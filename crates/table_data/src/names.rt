@@ -1,7 +1,7 @@
 //! Names, symbols and tokens as JSON.
 ghost use Rattle.std.specs.Prelude.{◌≡◌, ◌++◌, OnOk, string_bytes};
 ghost use Rattle.lalrpop_base.specs.Words.{seen};
-ghost use Rattle.table_data.specs.Json.{behind};
+ghost use Rattle.table_data.specs.Json.{after_separator};
 ghost use Rattle.table_data.specs.Names.{name_json, of_kind, terminal_json, symbol_json, token_json, tokens_json};
 
 use super::to_json::{ToJson, push_quoted};
@@ -103,8 +103,8 @@ fn push_token(
     token: TokenRef<'_>,
     terminals: &TerminalSet,
 ) -> Result<(), OutOfMemory>
-    ensures { OnOk result (string_bytes text.new ≡ string_bytes text.old ++ behind separator.now
-        token_json (seen token.entry)) }
+    ensures { OnOk result (string_bytes text.new ≡
+        string_bytes text.old ++ after_separator separator.now token_json (seen token.entry)) }
 {
     text.push_str(separator)?;
     match token {

@@ -1,6 +1,6 @@
 //! States as JSON: their items, edges and reductions.
 ghost use Rattle.std.specs.Prelude.{◌≡◌, ◌++◌, OnOk, string_bytes};
-ghost use Rattle.table_data.specs.States.{item_json, reduction_json, state_json};
+ghost use Rattle.table_data.specs.States.{item_json, lookahead_json, reduction_json, state_json};
 
 use super::lists::{push_array, push_targets};
 use super::names::push_tokens;
@@ -25,10 +25,27 @@ impl<'grammar> ToJson for Lr1Item<'grammar> {
         push_number(text, "{\"production\":", self.production.action.index())?;
         push_number(text, ",\"dot\":", self.index)?;
         text.push_str(",\"lookahead\":")?;
-        push_tokens(alloc, text, &self.lookahead, terminals)?;
+        push_lookahead(alloc, text, &self.lookahead, terminals)?;
         text.push_str("}")?;
         Ok(())
     }
+}
+
+// Appends the tokens of an item, or `null` if it has all: each terminal and the end of the input.
+fn push_lookahead(
+    alloc: Global,
+    text: &mut String,
+    set: &TokenSet,
+    terminals: &TerminalSet,
+) -> Result<(), OutOfMemory>
+    ensures { OnOk result
+        (string_bytes text.new ≡ string_bytes text.old ++ lookahead_json terminals.now set.now) }
+{
+    if set.len() > terminals.all().len() {
+        text.push_str("null")?;
+        return Ok(());
+    }
+    push_tokens(alloc, text, set, terminals)
 }
 
 impl<'grammar> ToJson for (TokenSet, &'grammar Production) {

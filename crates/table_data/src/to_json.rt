@@ -26,7 +26,7 @@ pub(crate) trait ToJson {
 }
 
 /// Appends a string of JSON, quoted and escaped.
-pub(crate) fn push_quoted(alloc: Global, text: &mut String, shown: &str) -> Result<(), OutOfMemory>
+pub fn push_quoted(alloc: Global, text: &mut String, shown: &str) -> Result<(), OutOfMemory>
     ensures { OnOk result (string_bytes text.new ≡ string_bytes text.old ++ quoted shown.now) }
 {
     let value = Value::try_from_str(alloc, shown)?;
@@ -36,7 +36,7 @@ pub(crate) fn push_quoted(alloc: Global, text: &mut String, shown: &str) -> Resu
 }
 
 /// Appends a label and a number.
-pub(crate) fn push_number(text: &mut String, label: &str, number: usize) -> Result<(), OutOfMemory>
+pub fn push_number(text: &mut String, label: &str, number: usize) -> Result<(), OutOfMemory>
     ensures { OnOk result (string_bytes text.new ≡ string_bytes text.old ++ (label.now ++ decimal
         number)) }
 {

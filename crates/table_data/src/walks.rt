@@ -1,7 +1,7 @@
 //! Examples of how the items of the actions of conflicts come about.
 ghost use Rattle.std.specs.Prelude.{◌≡◌, ◌++◌, Some, IfOk, OnOk, map, slice_get};
 ghost use Rattle.lalrpop_lr1.specs.Words.{items_at};
-ghost use Rattle.table_data.specs.Conflicts.{AreShown, IsShown, is_terminal, place_if, place_of_shown, places_of, reduced_places, shifted_places, shifts};
+ghost use Rattle.table_data.specs.Conflicts.{AreShown, ShowsItems, is_terminal, place_if, place_of_shown, action_places, reduced_places, shifted_places, shifts};
 
 use super::conflicts::ShownConflict;
 use super::examples::ShownItem;
@@ -19,25 +19,25 @@ const MOST: usize = 3;
 
 /// States, the FIRST sets and the terminals of their grammar, and the tracer over the states.
 #[derive(Drop)]
-pub(crate) struct Ground<'ground, 'grammar> {
-    pub(crate) states: &'ground [Lr1State<'grammar>],
-    pub(crate) first_sets: &'ground FirstSets<'grammar>,
-    pub(crate) terminals: &'ground TerminalSet,
-    pub(crate) tracer: &'ground Tracer<'ground, 'grammar>,
+pub(crate) struct Context<'context, 'grammar> {
+    pub(crate) states: &'context [Lr1State<'grammar>],
+    pub(crate) first_sets: &'context FirstSets<'grammar>,
+    pub(crate) terminals: &'context TerminalSet,
+    pub(crate) tracer: &'context Tracer<'context, 'grammar>,
     ghost numbered: { terminals.now ≡ first_sets.now.terminals },
 }
 
 /// The conflicts, each with examples of how its actions come about.
 pub(crate) fn shown_conflicts<'conflicts, 'grammar>(
     alloc: Global,
-    ground: &Ground<'_, 'grammar>,
+    context: &Context<'_, 'grammar>,
     conflicts: &'conflicts [Lr1Conflict<'grammar>],
 ) -> Result<Vec<ShownConflict<'conflicts, 'grammar>>, OutOfMemory>
-    ensures { IfOk result (λ shown. AreShown ground.now.states.now conflicts.now shown.items) }
+    ensures { IfOk result (λ shown. AreShown context.now.states.now conflicts.now shown.items) }
 {
     let mut shown = Vec::new(alloc);
     for conflict in conflicts {
-        shown.push(shown_conflict(alloc, ground, conflict)?)?;
+        shown.push(shown_conflict(alloc, context, conflict)?)?;
     }
     Ok(shown)
 }
@@ -45,14 +45,14 @@ pub(crate) fn shown_conflicts<'conflicts, 'grammar>(
 // A conflict with examples of how its actions come about.
 fn shown_conflict<'conflicts, 'grammar>(
     alloc: Global,
-    ground: &Ground<'_, 'grammar>,
+    context: &Context<'_, 'grammar>,
     conflict: &'conflicts Lr1Conflict<'grammar>,
 ) -> Result<ShownConflict<'conflicts, 'grammar>, OutOfMemory>
     ensures conflict { IfOk result (λ shown. shown.conflict.now ≡ conflict.now) }
-    ensures items { IfOk result (IsShown ground.now.states.now) }
+    ensures items { IfOk result (ShowsItems context.now.states.now) }
 {
-    let reduction = shown_reduction(alloc, ground, conflict, conflict.production)?;
-    let other = shown_action(alloc, ground, conflict)?;
+    let reduction = shown_reduction(alloc, context, conflict, conflict.production)?;
+    let other = shown_action(alloc, context, conflict)?;
     Ok(ShownConflict {
         conflict,
         reduction,
@@ -63,15 +63,15 @@ fn shown_conflict<'conflicts, 'grammar>(
 // The items of the other action of a conflict, with examples.
 fn shown_action<'grammar>(
     alloc: Global,
-    ground: &Ground<'_, 'grammar>,
+    context: &Context<'_, 'grammar>,
     conflict: &Lr1Conflict<'grammar>,
 ) -> Result<Vec<ShownItem>, OutOfMemory>
-    ensures { IfOk result (λ shown. map place_of_shown shown.items ≡ places_of
-        ground.now.states.now conflict.now.state conflict.now.action) }
+    ensures { IfOk result (λ shown. map place_of_shown shown.items ≡ action_places
+        context.now.states.now conflict.now.state conflict.now.action) }
 {
     match &conflict.action {
-        Action::Shift(terminal, _) => shown_shifts(alloc, ground, conflict.state, terminal),
-        Action::Reduce(production) => shown_reduction(alloc, ground, conflict, *production),
+        Action::Shift(terminal, _) => shown_shifts(alloc, context, conflict.state, terminal),
+        Action::Reduce(production) => shown_reduction(alloc, context, conflict, *production),
     }
 }
 
@@ -79,7 +79,7 @@ fn shown_action<'grammar>(
 // conflict.
 fn shown_reduction<'grammar>(
     alloc: Global,
-    ground: &Ground<'_, 'grammar>,
+    context: &Context<'_, 'grammar>,
     conflict: &Lr1Conflict<'grammar>,
     production: &'grammar Production,
 ) -> Result<Vec<ShownItem>, OutOfMemory>
@@ -91,7 +91,7 @@ fn shown_reduction<'grammar>(
         index: production.symbols.len(),
         lookahead: conflict.lookahead.clone(alloc)?,
     };
-    let examples = meeting_examples(alloc, ground, conflict.state, &item)?;
+    let examples = meeting_examples(alloc, context, conflict.state, &item)?;
     let mut shown = Vec::new(alloc);
     shown.push(ShownItem {
         production: production.action.index(),
@@ -104,17 +104,17 @@ fn shown_reduction<'grammar>(
 // The items of a state that shift a terminal, with examples.
 fn shown_shifts<'grammar>(
     alloc: Global,
-    ground: &Ground<'_, 'grammar>,
+    context: &Context<'_, 'grammar>,
     state: StateIndex,
     terminal: &TerminalString,
 ) -> Result<Vec<ShownItem>, OutOfMemory>
     ensures { IfOk result (λ shown. map place_of_shown shown.items ≡ shifted_places terminal.now
-        (items_at (slice_get ground.now.states.now state.0))) }
+        (items_at (slice_get context.now.states.now state.0))) }
 {
     let mut shown = Vec::new(alloc);
-    let items = items_in(ground.states, state);
+    let items = items_in(context.states, state);
     for item in items {
-        add_shift(alloc, &mut shown, ground, state, terminal, item)?;
+        add_shift(alloc, &mut shown, context, state, terminal, item)?;
     }
     Ok(shown)
 }
@@ -123,7 +123,7 @@ fn shown_shifts<'grammar>(
 fn add_shift<'grammar>(
     alloc: Global,
     shown: &mut Vec<ShownItem>,
-    ground: &Ground<'_, 'grammar>,
+    context: &Context<'_, 'grammar>,
     state: StateIndex,
     terminal: &TerminalString,
     item: &Lr1Item<'grammar>,
@@ -134,7 +134,7 @@ fn add_shift<'grammar>(
     if !is_shifted(item, terminal) {
         return Ok(());
     }
-    let examples = shifting_examples(alloc, ground, state, item)?;
+    let examples = shifting_examples(alloc, context, state, item)?;
     shown.push(ShownItem {
         production: item.production.action.index(),
         dot: item.index,
@@ -146,12 +146,12 @@ fn add_shift<'grammar>(
 // The first examples of an item of a state that shifts.
 fn shifting_examples<'grammar>(
     alloc: Global,
-    ground: &Ground<'_, 'grammar>,
+    context: &Context<'_, 'grammar>,
     state: StateIndex,
     item: &Lr1Item<'grammar>,
 ) -> Result<Vec<Example>, OutOfMemory> {
-    let begun = Item::lr0(item.production, item.index);
-    let graph = ground.tracer.backtrace_shift(alloc, state, begun)?;
+    let lr0_item = Item::lr0(item.production, item.index);
+    let graph = context.tracer.backtrace_shift(alloc, state, lr0_item)?;
     let walk = graph.lr0_examples(alloc, Item::lr0(item.production, item.index))?;
     let mut examples = Vec::new(alloc);
     for example in walk.take(MOST) {
@@ -164,17 +164,17 @@ fn shifting_examples<'grammar>(
 // There are none if the states have terminals that the grammar lacks.
 fn meeting_examples<'grammar>(
     alloc: Global,
-    ground: &Ground<'_, 'grammar>,
+    context: &Context<'_, 'grammar>,
     state: StateIndex,
     item: &Lr1Item<'grammar>,
 ) -> Result<Vec<Example>, OutOfMemory> {
     let finished = Item::lr0(item.production, item.index);
-    let graph = ground.tracer.backtrace_reduce(alloc, state, finished)?;
+    let graph = context.tracer.backtrace_reduce(alloc, state, finished)?;
     let mut examples = Vec::new(alloc);
-    if !graph.is_known(ground.terminals) {
+    if !graph.is_known(context.terminals) {
         return Ok(examples);
     }
-    for example in graph.lr1_examples(alloc, ground.first_sets, item)? {
+    for example in graph.lr1_examples(alloc, context.first_sets, item)? {
         if examples.len() == MOST {
             return Ok(examples);
         }

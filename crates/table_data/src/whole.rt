@@ -4,11 +4,12 @@ ghost use Rattle.lalrpop_base.specs.Words.{IsWellFormed};
 ghost use Rattle.table_data.specs.Conflicts.{AreShown};
 ghost use Rattle.table_data.specs.Whole.{IsData};
 
+use super::causes::shown_causes;
 use super::conflicts::ShownConflict;
 use super::lists::push_array;
 use super::rules::push_productions;
 use super::to_json::ToJson;
-use super::walks::{Ground, shown_conflicts};
+use super::walks::{Context, shown_conflicts};
 use lalrpop_base::first::FirstSets;
 use lalrpop_base::lr1_core::state::{Lr1Conflict, Lr1State};
 use lalrpop_base::memory::OutOfMemory;
@@ -32,8 +33,9 @@ pub fn tables_json<'grammar>(
 {
     let terminals = &grammar.terminals;
     let shown = shown_in(alloc, grammar, states, conflicts)?;
+    let causes = shown_causes(alloc, grammar, states, conflicts)?;
     let mut text = String::new(alloc);
-    text.push_str("{\"format\":\"lrshow\",\n\"version\":1,\n\"start\":")?;
+    text.push_str("{\"format\":\"lrshow\",\n\"version\":2,\n\"start\":")?;
     start.push_json(alloc, &mut text, terminals)?;
     text.push_str(",\n\"terminals\":")?;
     push_array(alloc, &mut text, ",", terminals.all(), terminals)?;
@@ -43,6 +45,8 @@ pub fn tables_json<'grammar>(
     push_array(alloc, &mut text, ",\n", states, terminals)?;
     text.push_str(",\n\"conflicts\":")?;
     push_array(alloc, &mut text, ",\n", &shown, terminals)?;
+    text.push_str(",\n\"causes\":")?;
+    push_array(alloc, &mut text, ",\n", &causes, terminals)?;
     text.push_str("}\n")?;
     Ok(text)
 }
@@ -62,11 +66,11 @@ fn shown_in<'conflicts, 'grammar>(
     }
     let first_sets = FirstSets::new(alloc, grammar)?;
     let tracer = Tracer::new(alloc, &first_sets, states)?;
-    let ground = Ground {
+    let context = Context {
         states,
         first_sets: &first_sets,
         terminals: &grammar.terminals,
         tracer: &tracer,
     };
-    shown_conflicts(alloc, &ground, conflicts)
+    shown_conflicts(alloc, &context, conflicts)
 }

@@ -1,4 +1,5 @@
 use Rattle.std.proofs.Common.{refl, codes, string_bytes}
+use Rattle.table_data.specs.Causes.{cause_json}
 use Rattle.table_data.specs.Conflicts.{conflict_json}
 use Rattle.table_data.specs.Json.{array}
 use Rattle.table_data.specs.Names.{terminal_json}
@@ -9,6 +10,8 @@ pub returns : goal.returns
 returns c = record {
   shown = c.in_ok-shown.shown.items;
   each = c.in_ok-shown.ensures;
+  causes = c.in_ok-causes.causes.items;
+  caused = record { causes = c.in_ok-causes.ensures.causes; searches = c.in_ok-causes.ensures.searches };
   is = from_nothing _ _ _ c.new-text.ensures.bytes (
       before (string_bytes c.new-text.result) _ _ _ _ _ c.in_ok-push_str.ensures.bytes (
       before (string_bytes c.push_str.new.self) _ _ _ _ _ c.in_ok-push_json.ensures (
@@ -20,6 +23,8 @@ returns c = record {
       before (string_bytes c.push_str-4.new.self) _ _ _ _ _ c.in_ok-push_array-2.ensures (
       before (string_bytes c.push_array-2.new.text) _ _ _ _ _ c.in_ok-push_str-5.ensures.bytes (
       before (string_bytes c.push_str-5.new.self) _ _ _ _ _ (grew_by (array (codes ",\n") (conflict_json c.args.grammar.now.terminals)) _ _ _ _ c.in_ok-push_array-3.ensures c.deref.ensures.value) (
-      c.in_ok-push_str-6.ensures.bytes) refl) refl) refl) refl) refl) refl) refl) refl) refl) refl
+      before (string_bytes c.push_array-3.new.text) _ _ _ _ _ c.in_ok-push_str-6.ensures.bytes (
+      before (string_bytes c.push_str-6.new.self) _ _ _ _ _ (grew_by (array (codes ",\n") cause_json) _ _ _ _ c.in_ok-push_array-4.ensures c.deref-2.ensures.value) (
+      c.in_ok-push_str-7.ensures.bytes) refl) refl) refl) refl) refl) refl) refl) refl) refl) refl) refl) refl
       );
 }
