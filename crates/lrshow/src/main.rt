@@ -3,9 +3,11 @@
 #![tactic(auto)]
 
 use lrshow_run::run::run;
+use lrtab_run::answer::first_word;
 use lrtab_run::host::{given_method, given_words, out_of_memory};
 use std::fs;
 use std::fs::File;
+use std::io::Lock;
 use std::process::ExitCode;
 
 fn main(rt: HostRuntime) -> ExitCode {
@@ -15,16 +17,15 @@ fn main(rt: HostRuntime) -> ExitCode {
     let Ok(method) = given_method(&rt) else {
         return out_of_memory(&rt);
     };
+    let alloc = rt.alloc();
+    let (mut out, mut err) = (rt.stdout(), rt.stderr());
+    if first_word(&words) == "-" {
+        let file = Some(rt.stdin().lock());
+        return ExitCode::from(run(alloc, &words, method, file, &mut out, &mut err));
+    }
     let file: Option<File> = match words.first() {
         Some(name) => fs::open(&rt, name.as_str()).ok(),
         None => None,
     };
-    ExitCode::from(run(
-        rt.alloc(),
-        &words,
-        method,
-        file,
-        &mut rt.stdout(),
-        &mut rt.stderr(),
-    ))
+    ExitCode::from(run(alloc, &words, method, file, &mut out, &mut err))
 }

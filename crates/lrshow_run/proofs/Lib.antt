@@ -1,1 +1,3 @@
 pub mod PageShown
+pub mod Checked
+pub mod Doubts

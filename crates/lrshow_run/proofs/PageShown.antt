@@ -10,7 +10,8 @@ use Rattle.lalrpop_grammar.specs.declared.repr.grammar.Grammar.{Grammar}
 use Rattle.lrtab_run.specs.declared.answer.Shown.{Shown}
 use Rattle.table_data.specs.Whole.{IsData}
 use Rattle.table_pictures.specs.Page.{page}
-use Rattle.lrshow_run.specs.Shown.{IsFormShown, IsOutput}
+use Rattle.lrshow_run.specs.Output.{IsOutput}
+use Rattle.lrshow_run.specs.Shown.{IsFormShown}
 use Rattle.lrshow_run.specs.Words.{Page}
 
 -- if a text is the page of some data, then what is shown with that text is what is shown for a page

@@ -2,6 +2,11 @@
 #![tactic(auto)]
 
 mod built;
+mod check;
+mod findings;
+mod help;
+mod lines;
 pub mod run;
 mod shown;
+mod tree;
 pub mod words;

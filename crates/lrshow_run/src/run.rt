@@ -1,14 +1,17 @@
 //! The program `lrshow`, over any reader and writers.
 ghost use Rattle.std.specs.Prelude.{◌≡◌, map, option_map, string_bytes};
-ghost use Rattle.lrtab_run.specs.Answers.{file_name};
-ghost use Rattle.lrtab_run.specs.Told.{IsTold};
+ghost use Rattle.lrtab_run.specs.Written.{IsResultWritten};
 ghost use Rattle.lrtab_run.specs.declared.answer.Answer.{Answer};
-ghost use Rattle.lrshow_run.specs.Answers.{usage, IsAnswer};
-ghost use Rattle.lrshow_run.specs.Words.{request_of};
+ghost use Rattle.lrshow_run.specs.Answers.{IsShowAnswer};
+ghost use Rattle.lrshow_run.specs.Check.{IsCheckAnswer};
+ghost use Rattle.lrshow_run.specs.Help.{IsTextAnswer, usage};
+ghost use Rattle.lrshow_run.specs.Words.{check_view, text_view};
 
-use crate::words::request_of;
+use crate::check::check_file;
+use crate::help::{USAGE, text_of};
+use crate::words::{Check, Text, check_of, request_of, text_for};
 use lalrpop_tables::build::Method;
-use lrtab_run::answer::{Answer, answer_to, first_word};
+use lrtab_run::answer::{Answer, Shown, answer_to, first_word};
 use lrtab_run::tell::tell;
 use std::alloc::Global;
 use std::io::{Read, Write};
@@ -26,16 +29,13 @@ pub fn run<R: Read, O: Write, E: Write>(
 where
     R: Drop,
     ensures { (answer : Answer)
-        × IsAnswer method (request_of (map string_bytes words.now))
-        (file_name (map string_bytes words.now)) (option_map R.remaining file) answer
-        × IsTold usage answer result
+        × IsShowAnswer method (map string_bytes words.now) (option_map R.remaining file) answer
+        × IsResultWritten usage answer result
         (O.contents out.old) (O.contents out.new) (E.contents err.old) (E.contents err.new) }
 {
     let answer = answer_of(alloc, words, method, file);
     tell(&answer, USAGE, out, err)
 }
-
-const USAGE: &str = "usage: lrshow FILE START (json | dot [--around STATE] | html)\n";
 
 /// The result of the program for its arguments. `file` reads the file that the first argument
 /// names, and is `None` if that could not be opened.
@@ -45,14 +45,50 @@ pub fn answer_of<R: Read + Drop>(
     method: Method,
     file: Option<R>,
 ) -> Answer
-    ensures { IsAnswer method (request_of (map string_bytes words.now))
-        (file_name (map string_bytes words.now)) (option_map R.remaining file) result }
+    ensures { IsShowAnswer method (map string_bytes words.now)
+        (option_map R.remaining file) result }
 {
+    if let Some(asked) = text_for(words) {
+        return text_answer(alloc, asked);
+    }
+    if let Some(check) = check_of(words) {
+        return checked(alloc, check, first_word(words), method, file);
+    }
     let Some(request) = request_of(words) else {
         return Answer::Usage;
     };
     match answer_to(alloc, &request, first_word(words), method, file) {
         Ok(answer) => answer,
+        Err(_) => Answer::Memory,
+    }
+}
+
+// The result of a check.
+fn checked<R: Read + Drop>(
+    alloc: Global,
+    check: Check<'_>,
+    name: &str,
+    method: Method,
+    file: Option<R>,
+) -> Answer
+    ensures { IsCheckAnswer method (check_view check.entry) name.now (option_map R.remaining file) result }
+{
+    match check_file(alloc, check, name, method, file) {
+        Ok(answer) => answer,
+        Err(_) => Answer::Memory,
+    }
+}
+
+// The result for a text that needs no file.
+fn text_answer(alloc: Global, asked: Text) -> Answer
+    ensures { IsTextAnswer (text_view asked) result }
+{
+    match text_of(alloc, asked) {
+        Ok(text) => Answer::Output(Shown {
+            status: 0,
+            text,
+            remark: String::new(alloc),
+        }),
         Err(_) => Answer::Memory,
     }
 }

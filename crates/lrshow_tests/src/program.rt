@@ -16,17 +16,19 @@ const ONE_TERMINAL: &str = "S = \"x\"";
 /// A grammar with a conflict, which has examples.
 const CONFLICT: &str = "S = N \"p\"\nN = \"n\"\nN = \"n\"\n";
 
-const USAGE: &str = "usage: lrshow FILE START (json | dot [--around STATE] | html)\n";
+const USAGE: &str =
+    "usage: lrshow FILE START (check [--json] | conflicts | tree [--dot] TOKEN.. | json | dot [--around STATE [--depth N] | --conflicts] | html)\n";
 
 /// The data of `ONE_TERMINAL`, by the canonical method.
 const DATA: &str = "{\"format\":\"lrshow\",
-\"version\":1,
+\"version\":2,
 \"start\":\"S\",
 \"terminals\":[\"x\"],
 \"productions\":[{\"number\":0,\"nonterminal\":\"S\",\"symbols\":[{\"terminal\":\"x\"}]}],
 \"states\":[{\"number\":0,\"items\":[{\"production\":0,\"dot\":0,\"lookahead\":[null]}],\"shifts\":{\"x\":1},\"gotos\":{},\"reductions\":[]},
 {\"number\":1,\"items\":[{\"production\":0,\"dot\":1,\"lookahead\":[null]}],\"shifts\":{},\"gotos\":{},\"reductions\":[{\"production\":0,\"lookahead\":[null]}]}],
-\"conflicts\":[]}
+\"conflicts\":[],
+\"causes\":[]}
 ";
 
 /// The graph of `ONE_TERMINAL` around state 1, by either method.
@@ -78,9 +80,9 @@ fn ran_by(
 fn data_and_graph(rt: HostRuntime) -> Result<(), Fail> {
     let alloc = rt.alloc();
     let canonical = Method::Canonical;
-    for (line, owed) in [("f S json", DATA), ("f S dot --around 1", GRAPH)] {
+    for (line, expected) in [("f S json", DATA), ("f S dot --around 1", GRAPH)] {
         let (wrote, said, status) = ran_by(alloc, canonical, Some(ONE_TERMINAL.as_bytes()), line)?;
-        assert_eq!(rt; wrote.as_slice(), owed.as_bytes());
+        assert_eq!(rt; wrote.as_slice(), expected.as_bytes());
         assert_eq!(rt; said.len(), 0);
         assert_eq!(rt; status, 0);
     }
@@ -100,15 +102,16 @@ fn with_edges(alloc: Global, count: usize) -> Result<String, AllocError> {
 #[test]
 fn large_graphs(rt: HostRuntime) -> Result<(), Fail> {
     let alloc = rt.alloc();
-    let remark = "201 edges: --around STATE shows one state and its neighbours\n";
-    for (count, line, owed) in [
+    let remark =
+        "201 edges: --around STATE shows one state and its neighbours, --conflicts the paths to conflicts\n";
+    for (count, line, expected) in [
         (200, "f S dot", ""),
         (201, "f S dot", remark),
         (201, "f S dot --around 0", ""),
     ] {
         let text = with_edges(alloc, count)?;
         let (_, said, status) = ran_by(alloc, Method::Lane, Some(text.as_bytes()), line)?;
-        assert_eq!(rt; said.as_slice(), owed.as_bytes());
+        assert_eq!(rt; said.as_slice(), expected.as_bytes());
         assert_eq!(rt; status, 0);
     }
     Ok(())
@@ -138,5 +141,153 @@ fn files_that_cannot_be_read(rt: HostRuntime) -> Result<(), Fail> {
     assert_eq!(rt; status, 2);
     assert_eq!(rt; out.len(), 0);
     assert_eq!(rt; err.as_slice(), b"cannot read a/f\n".as_slice());
+    Ok(())
+}
+
+// Each line of a check has its place. The status is different for errors, for doubts and for neither.
+#[test]
+fn checks(rt: HostRuntime) -> Result<(), Fail> {
+    let alloc = rt.alloc();
+    for (text, expected, status) in [
+        (ONE_TERMINAL, "", 0),
+        (
+            "S = A |\nT : S\n",
+            "f:1:7: error: `|` is neither a name nor a literal; write the alternative as a production on a line of its own\nf:2:3: error: `:` is in the place of \"=\"; write \"=\" between the left side and the right side\n",
+            2,
+        ),
+        (
+            CONFLICT,
+            "f:3:5: warning: the right side is that of line 2; leave one of the two out\nf:1:1: warning: 1 conflict; `lrshow FILE START conflicts` shows their causes\n",
+            1,
+        ),
+        (
+            "S = I\ninline I\nI = I \"x\"\nI =\n",
+            "f:2:1: error: `I` would have to be inlined into itself; leave a mark out\n",
+            2,
+        ),
+    ] {
+        let (wrote, said, got) = ran_by(alloc, Method::Lane, Some(text.as_bytes()), "f S check")?;
+        assert_eq!(rt; wrote.as_slice(), expected.as_bytes());
+        assert_eq!(rt; said.len(), 0);
+        assert_eq!(rt; got, status);
+    }
+    Ok(())
+}
+
+// A check as data.
+#[test]
+fn check_as_data(rt: HostRuntime) -> Result<(), Fail> {
+    let alloc = rt.alloc();
+    let text: &[u8] = b"S = A\n";
+    let (wrote, said, status) = ran_by(alloc, Method::Lane, Some(text), "f S check --json")?;
+    let expected =
+        "[{\"severity\":\"warning\",\"line\":1,\"column\":5,\"start\":4,\"end\":5,\"message\":\"`A` has no production\",\"hint\":\"write one, or mend the name\"},\n{\"severity\":\"warning\",\"line\":1,\"column\":1,\"start\":0,\"end\":1,\"message\":\"`S` derives no list of terminals\",\"hint\":\"write a production without it\"}]\n";
+    assert_eq!(rt; wrote.as_slice(), expected.as_bytes());
+    assert_eq!(rt; said.len(), 0);
+    assert_eq!(rt; status, 1);
+    Ok(())
+}
+
+/// The parse of `ONE_TERMINAL` as a graph.
+const TREE: &str = "digraph tree {
+  node [shape=box fontname=monospace];
+  0 [label=\"S\"];
+  1 [label=\"\\\"x\\\"\" shape=plaintext];
+  0 -> 1;
+}
+";
+
+// Parses, drawn, refused and cut short by a conflict.
+#[test]
+fn trees(rt: HostRuntime) -> Result<(), Fail> {
+    let alloc = rt.alloc();
+    for (text, line, expected, remark, status) in [
+        (ONE_TERMINAL, "f S tree x", "S\n  \"x\"\n", "", 0),
+        (ONE_TERMINAL, "f S tree --dot x", TREE, "", 0),
+        (
+            ONE_TERMINAL,
+            "f S tree x x",
+            "",
+            "token 2, \"x\", is wrong; expected: Eof\n",
+            1,
+        ),
+        (
+            ONE_TERMINAL,
+            "f S tree",
+            "",
+            "the input ends too early; expected: \"x\"\n",
+            1,
+        ),
+        (CONFLICT, "f S tree n p", "", "conflicts: 1\n", 1),
+    ] {
+        let (wrote, said, got) = ran_by(alloc, Method::Lane, Some(text.as_bytes()), line)?;
+        assert_eq!(rt; wrote.as_slice(), expected.as_bytes());
+        assert_eq!(rt; said.as_slice(), remark.as_bytes());
+        assert_eq!(rt; got, status);
+    }
+    Ok(())
+}
+
+/// A graph without a state.
+const NO_GRAPH: &str = "digraph states {
+  node [shape=box fontname=monospace];
+  edge [fontname=monospace];
+  rankdir=LR;
+}
+";
+
+/// A grammar whose terminal is the control character U+001B.
+const CONTROL: &str = "S = \"\u{1b}\"";
+
+// Start symbols without a production, grammars without a conflict, and a control character, which is
+// shown by its picture.
+#[test]
+fn messages(rt: HostRuntime) -> Result<(), Fail> {
+    let alloc = rt.alloc();
+    for (text, line, expected, remark, status) in [
+        (
+            ONE_TERMINAL,
+            "f T conflicts",
+            "",
+            "`T` has no production\n",
+            2,
+        ),
+        (ONE_TERMINAL, "f T tree x", "", "`T` has no production\n", 2),
+        (
+            "Sum = \"x\"",
+            "f Su tree x",
+            "",
+            "`Su` has no production; perhaps `Sum` is meant\n",
+            2,
+        ),
+        (
+            ONE_TERMINAL,
+            "f S conflicts",
+            "0 conflicts of 0 causes\n",
+            "",
+            0,
+        ),
+        (
+            ONE_TERMINAL,
+            "f S dot --conflicts",
+            NO_GRAPH,
+            "no conflicts\n",
+            0,
+        ),
+        (ONE_TERMINAL, "f S dot --around 1 --depth 1", GRAPH, "", 0),
+        (CONTROL, "f S tree \u{1b}", "S\n  \"\u{241b}\"\n", "", 0),
+        (
+            CONTROL,
+            "f S tree x",
+            "",
+            "token 1, \"x\", is wrong; expected: \"\u{241b}\"\n",
+            1,
+        ),
+    ] {
+        let (wrote, said, got) = ran_by(alloc, Method::Lane, Some(text.as_bytes()), line)?;
+        assert_eq!(rt; wrote.as_slice(), expected.as_bytes());
+        assert_eq!(rt; said.as_slice(), remark.as_bytes());
+        assert_eq!(rt; got, status);
+    }
     Ok(())
 }

@@ -16,12 +16,12 @@ use Rattle.lalrpop_explain.specs.explained.FirstExamples.{no_example, one_exampl
 use Rattle.lalrpop_explain.specs.declared.explain.ExplainedConflict.{ExplainedConflict}
 use Rattle.lalrpop_explain.specs.declared.explain.ExplainedItem.{ExplainedItem}
 use Rattle.lalrpop_traces.specs.declared.trace.example.Example.{Example}
-use Rattle.lrtab_run.specs.Explained.{HasParts, IsActionPart, IsConflictPart, IsItemPart, IsReducePart, marked_line, no_part, other as other_item, part, path_line, path_lines, shifting as shifting_item}
+use Rattle.lrtab_run.specs.Explained.{HasParts, IsActionPart, IsConflictPart, IsItemPart, IsReducePart, indented_line, no_part, other as other_item, part, path_line, path_lines, shifting as shifting_item}
 use Rattle.lrtab_run.specs.Explaining.{action_text, conflict_text, example_line, example_lines, reduction_text}
 
 -- the line of an example is that of its path
 line_of_path : (graph : Graph) (path : List ℕ) (x : Example) → IsExampleOf graph path x → example_line x ≡ path_line graph path
-line_of_path graph path x h = ap (λ n. marked_line x.symbols.items n) h.cursor ∙ ap (λ xs. marked_line xs (length (prefixes graph path))) h.symbols
+line_of_path graph path x h = ap (λ n. indented_line x.symbols.items n) h.cursor ∙ ap (λ xs. indented_line xs (length (prefixes graph path))) h.symbols
 
 lines_of_paths : (graph : Graph) (paths : List (List ℕ)) (xs : List Example) → AreExamplesOf graph paths xs → flat_map example_line xs ≡ path_lines graph paths
 lines_of_paths graph [] [] no_example = refl

@@ -11,7 +11,7 @@ use Rattle.grammar_text.specs.Lines.{lines_of, is_fault}
 use Rattle.grammar_text.specs.Faults.{IsFaultOf}
 use Rattle.grammar_text.specs.Grammar.{StandsFor}
 use Rattle.lalrpop_grammar.specs.declared.repr.grammar.Grammar.{Grammar}
-use Rattle.lrtab_run.specs.Answers.{OfFile, IsOutputOf, IsCyclic, IsTooMany, inlined, IsFaultText, IsAnswerTo, IsAnswerToGrammar}
+use Rattle.lrtab_run.specs.Answers.{OfFile, IsOutputOf, HasInlineCycle, IsTooMany, inlined, IsFaultText, IsAnswerTo, IsAnswerToGrammar}
 
 of_file : (P : List ℕ → Type 0) (bytes : List ℕ) (known : Option (List ℕ)) → IfSome known (λ xs. bytes ≡ xs) → P bytes → OfFile P (Some known)
 of_file P bytes None e p = tt
@@ -20,7 +20,7 @@ of_file P bytes (Some xs) e p = subst P e p
 fault_known : (name bytes : List ℕ) (known : Option (List ℕ)) (text : List ℕ) → IfSome known (λ xs. bytes ≡ xs) → IsFaultText name (Some (Some bytes)) text → IsFaultText name (Some known) text
 fault_known name bytes known text e (inl h) = inl h
 fault_known name bytes known text e (inr (inl (n, h, shown))) = inr (inl (n, of_file (λ bs. IsUtf8 bs × IsFaultOf (lines_of bs) (LineFault n)) bytes known e h, shown))
-fault_known name bytes known text e (inr (inr (a, h, shown))) = inr (inr (a, of_file (λ bs. IsCyclic bs a) bytes known e h, shown))
+fault_known name bytes known text e (inr (inr (a, h, shown))) = inr (inr (a, of_file (λ bs. HasInlineCycle bs a) bytes known e h, shown))
 
 answer_known : (IsShown : Grammar → Shown → Type 0) (name bytes : List ℕ) (known : Option (List ℕ)) (answer : Answer) → IfSome known (λ xs. bytes ≡ xs) → IsAnswerTo IsShown name (Some (Some bytes)) answer → IsAnswerTo IsShown name (Some known) answer
 answer_known IsShown name bytes known (Output s) e h = of_file (IsOutputOf IsShown s) bytes known e h

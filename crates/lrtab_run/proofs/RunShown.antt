@@ -11,7 +11,7 @@ use Rattle.lalrpop_grammar.specs.declared.repr.TerminalString.TheVariants.{Liter
 use Rattle.lalrpop_grammar.specs.declared.repr.grammar.Grammar.{Grammar}
 use Rattle.lalrpop_tables.specs.Words.{AreTablesOf}
 use Rattle.lalrpop_construction.specs.declared.options.Method.{Method}
-use Rattle.lalrpop_lr1.specs.Words.{IsAnswer, IsTreeWithin, IsCutOff, AnswersTrees, IfRefused, IfLimit, tree_of}
+use Rattle.lalrpop_lr1.specs.Words.{ReportsOutcome, IsTreeWithin, IsCutOff, AnswersTrees, IfRefused, IfLimit, tree_of}
 use Rattle.lalrpop_parser.specs.declared.interpret.error.InterpretError.{InterpretError}
 use Rattle.lalrpop_parser.specs.declared.interpret.error.InterpretError.TheVariants.{Refused as RefusedBy, Limit as LimitPassed, Memory}
 use Rattle.lalrpop_parser.specs.declared.interpret.tree.ParseTree.{ParseTree}
@@ -25,7 +25,7 @@ module _ (g : Grammar) (start : NonterminalString) (w : List TerminalString) (li
     pub refuses : IfErr answer (IfRefused (λ _ token. IsOnNoRightSide (productions g) start → IsFirstWrong (productions g) start w token) states)
     pub cut_off : IfErr answer (IfLimit (IsCutOff (contents g.terminals states) w limit))
     pub one_tree : IsOnNoRightSide (productions g) start → AnswersTrees limit w states answer (productions g) start
-    pub run : IsAnswer (HasOutcome (contents g.terminals states) w limit) states answer
+    pub run : ReportsOutcome (HasOutcome (contents g.terminals states) w limit) states answer
     pub of_list : IfOk answer (λ tree. leaves (beside (tree_of tree) no_trees) ≡ w)
     pub within : IfOk answer (λ tree. nodes (beside (tree_of tree) no_trees) ≤ limit)
 

@@ -39,7 +39,7 @@ pub record IsOutputOf (IsShown : Grammar → Shown → Type 0) (s : Shown) (byte
 
 -- the grammar that a text gives has marked nonterminals that mention each other in a ring, and `a`
 -- is one of them
-pub record IsCyclic (bytes : List ℕ) (a : NonterminalString) : Type 0 where
+pub record HasInlineCycle (bytes : List ℕ) (a : NonterminalString) : Type 0 where
   pub utf8 : IsUtf8 bytes
   pub right : position is_fault (lines_of bytes) ≡ None
   pub grammar : Grammar
@@ -59,7 +59,7 @@ abbrev pub IsFaultText : List ℕ → Option (Option (List ℕ)) → List ℕ �
 IsFaultText name file text =
     (text ≡ line (codes "cannot read " ++ name))
     ⊎ ((n : ℕ) × OfFile (λ bytes. IsUtf8 bytes × IsFaultOf (lines_of bytes) (LineFault n)) file × (text ≡ line (codes "line " ++ decimal n ++ codes ": not a grammar line")))
-    ⊎ ((a : NonterminalString) × OfFile (λ bytes. IsCyclic bytes a) file × (text ≡ line (codes "cyclic inline of " ++ a.text)))
+    ⊎ ((a : NonterminalString) × OfFile (λ bytes. HasInlineCycle bytes a) file × (text ≡ line (codes "cyclic inline of " ++ a.text)))
 
 -- a result is right for a file, if `IsShown` says what is shown of a grammar
 abbrev pub IsAnswerTo : (Grammar → Shown → Type 0) → List ℕ → Option (Option (List ℕ)) → Answer → Type 0

@@ -23,12 +23,12 @@ abbrev pub head_line : ℕ → StateIndex → List Token → List ℕ
 head_line number state tokens = codes "conflict " ++ (decimal number ++ (codes " in state " ++ (decimal state.0 ++ (codes " on" ++ (tokens_text tokens ++ codes "\n")))))
 
 -- an example after four spaces
-abbrev pub marked_line : List ExampleSymbol → ℕ → List ℕ
-marked_line symbols place = codes "    " ++ (marked_text symbols place ++ codes "\n")
+abbrev pub indented_line : List ExampleSymbol → ℕ → List ℕ
+indented_line symbols place = codes "    " ++ (marked_text symbols place ++ codes "\n")
 
 -- the line of the example of a path
 abbrev pub path_line : Graph → List ℕ → List ℕ
-path_line graph path = marked_line (spelled graph path) (length (prefixes graph path))
+path_line graph path = indented_line (spelled graph path) (length (prefixes graph path))
 
 -- the lines of the examples of paths
 abbrev pub path_lines : Graph → List (List ℕ) → List ℕ
@@ -43,7 +43,7 @@ pub data HasParts {X : Type 0} (IsPart : ℕ → X → List ℕ → Type 0) : �
 -- the rules of a grammar, and the states of its conflicts
 module _ (g : Rules) (states : List (State Bits)) where
   -- the text has the first three examples of an item that shifts
-  pub record AreShiftExamples (state : StateIndex) (item : Dotted Bits) (text : List ℕ) : Type 0 where
+  pub record HasShiftExamples (state : StateIndex) (item : Dotted Bits) (text : List ℕ) : Type 0 where
     pub graph : Graph
     pub traced : IsTraceOf (shift_traced g.productions states state (dotted item.production item.index)) graph
     pub ordered : IsInOrder (shift_traced g.productions states state (dotted item.production item.index)) graph
@@ -51,7 +51,7 @@ module _ (g : Rules) (states : List (State Bits)) where
 
   -- the text has the first three examples of a finished item that can go on with a token of its
   -- lookahead
-  pub record AreReduceExamples (state : StateIndex) (item : Dotted Bits) (text : List ℕ) : Type 0 where
+  pub record HasReduceExamples (state : StateIndex) (item : Dotted Bits) (text : List ℕ) : Type 0 where
     pub graph : Graph
     pub traced : IsTraceOf (reduction_traced g.productions states state (dotted item.production item.index)) graph
     pub ordered : IsInOrder (reduction_traced g.productions states state (dotted item.production item.index)) graph
@@ -62,7 +62,7 @@ module _ (g : Rules) (states : List (State Bits)) where
   -- ---- the parts of a conflict
   -- the text has the examples of an item, if it shifts the terminal, and else is empty
   pub data IsItemPart (state : StateIndex) (t : TerminalString) (item : Dotted Bits) (text : List ℕ) : Type 0 where
-    shifting : slice_get item.production.symbols item.index ≡ Some (Terminal t) → AreShiftExamples state item text → IsItemPart state t item text
+    shifting : slice_get item.production.symbols item.index ≡ Some (Terminal t) → HasShiftExamples state item text → IsItemPart state t item text
     other : slice_get item.production.symbols item.index ≢ Some (Terminal t) → text ≡ [] → IsItemPart state t item text
 
   -- the text of a shift: its terminal, and the examples of each item of the state that shifts it,
@@ -76,7 +76,7 @@ module _ (g : Rules) (states : List (State Bits)) where
   -- the conflict
   pub record IsReducePart (state : StateIndex) (lookahead : Bits) (p : Production) (text : List ℕ) : Type 0 where
     pub examples : List ℕ
-    pub of_item : AreReduceExamples state (record { production = p; index = length p.symbols; lookahead = lookahead }) examples
+    pub of_item : HasReduceExamples state (record { production = p; index = length p.symbols; lookahead = lookahead }) examples
     pub shown : text ≡ codes "  reduce " ++ (production_line p ++ examples)
 
   -- the text of an action of a conflict: a shift or a reduction

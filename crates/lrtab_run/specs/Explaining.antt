@@ -9,17 +9,17 @@ use Rattle.lalrpop_lr1.specs.Words.{production_line, tokens_in}
 use Rattle.lalrpop_explain.specs.declared.explain.ExplainedConflict.{ExplainedConflict}
 use Rattle.lalrpop_explain.specs.declared.explain.ExplainedItem.{ExplainedItem}
 use Rattle.lalrpop_traces.specs.declared.trace.example.Example.{Example}
-use Rattle.lrtab_run.specs.Explained.{head_line, marked_line}
+use Rattle.lrtab_run.specs.Explained.{head_line, indented_line}
 
 -- a text grew by a text of which P holds
-pub record Grows (P : List ℕ → Type 0) (old new : List ℕ) : Type 0 where
+pub record AppendsText (P : List ℕ → Type 0) (old new : List ℕ) : Type 0 where
   pub added : List ℕ
   pub holds : P added
   pub grown : new ≡ old ++ added
 
 -- the line of an example
 abbrev pub example_line : Example → List ℕ
-example_line x = marked_line x.symbols.items x.cursor
+example_line x = indented_line x.symbols.items x.cursor
 
 -- the lines of the examples of an item
 abbrev pub example_lines : ExplainedItem → List ℕ

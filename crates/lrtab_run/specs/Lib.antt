@@ -1,7 +1,7 @@
-pub mod Words
-pub mod Output
+pub mod Answers
 pub mod Explained
 pub mod Explaining
+pub mod Output
 pub mod Shown
-pub mod Answers
-pub mod Told
+pub mod Words
+pub mod Written

@@ -75,8 +75,8 @@ pub fn answer_to<A: Ask, R: Read + Drop>(
     }
 }
 
-// The message for a file that cannot be read.
-fn cannot_read(alloc: Global, name: &str) -> Result<String, OutOfMemory>
+/// The message for a file that cannot be read.
+pub fn cannot_read(alloc: Global, name: &str) -> Result<String, OutOfMemory>
     ensures { IfOk result (λ text. string_bytes text ≡ line (codes "cannot read " ++ name.now)) }
 {
     Ok(format!(in alloc; "cannot read {name}\n")?)
@@ -90,8 +90,8 @@ fn faulty_line(alloc: Global, number: usize) -> Result<String, OutOfMemory>
     Ok(format!(in alloc; "line {number}: not a grammar line\n")?)
 }
 
-// The text of a file. `None` if the file cannot be read or is not UTF-8.
-fn text_of<R: Read + Drop>(alloc: Global, mut reader: R) -> Result<Option<String>, OutOfMemory>
+/// The text of a file. `None` if the file cannot be read or is not UTF-8.
+pub fn text_of<R: Read + Drop>(alloc: Global, mut reader: R) -> Result<Option<String>, OutOfMemory>
     ensures { IfOk result
         (λ text. IfSome text (λ t. IfSome (R.remaining reader) (λ bytes. string_bytes t ≡ bytes))) }
 {

@@ -6,7 +6,7 @@ ghost use Rattle.std.specs.List.{flat_map};
 ghost use Rattle.lalrpop_base.specs.Words.{IsWellFormed, rules_of, terminal_text};
 ghost use Rattle.lalrpop_lr1.specs.Words.{AreOwnConflicts, AreOwnStates, IsOwnError};
 ghost use Rattle.lrtab_run.specs.Explained.{IsExplanation};
-ghost use Rattle.lrtab_run.specs.Explaining.{Grows, action_text, conflict_text, example_line, example_lines, reduction_text};
+ghost use Rattle.lrtab_run.specs.Explaining.{AppendsText, action_text, conflict_text, example_line, example_lines, reduction_text};
 
 use self::lines::{push_example, push_head, push_production};
 use lalrpop_base::first::FirstSets;
@@ -55,13 +55,13 @@ fn push_conflicts<'grammar>(
     terminals: &TerminalSet,
     conflicts: &[Lr1Conflict<'grammar>],
 ) -> Result<(), OutOfMemory>
-    requires states { AreOwnStates explainer.now.ground.first_sets.now
-        explainer.now.ground.states.now }
-    requires conflicts { AreOwnConflicts explainer.now.ground.first_sets.now.productions
+    requires states { AreOwnStates explainer.now.context.first_sets.now
+        explainer.now.context.states.now }
+    requires conflicts { AreOwnConflicts explainer.now.context.first_sets.now.productions
         conflicts.now }
-    requires numbered { terminals.now ≡ explainer.now.ground.first_sets.now.terminals }
-    ensures { OnOk result (Grows
-        (IsExplanation explainer.now.ground.first_sets.now explainer.now.ground.states.now
+    requires numbered { terminals.now ≡ explainer.now.context.first_sets.now.terminals }
+    ensures { OnOk result (AppendsText
+        (IsExplanation explainer.now.context.first_sets.now explainer.now.context.states.now
         conflicts.now) (string_bytes text.old) (string_bytes text.new)) }
 {
     for (place, conflict) in conflicts.iter().enumerate() {

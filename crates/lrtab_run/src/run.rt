@@ -3,7 +3,7 @@ ghost use Rattle.std.specs.Prelude.{◌≡◌, map, option_map, string_bytes};
 ghost use Rattle.lrtab_run.specs.declared.answer.Answer.{Answer};
 ghost use Rattle.lrtab_run.specs.Words.{request_of};
 ghost use Rattle.lrtab_run.specs.Answers.{file_name, usage, IsAnswer};
-ghost use Rattle.lrtab_run.specs.Told.{IsTold};
+ghost use Rattle.lrtab_run.specs.Written.{IsResultWritten};
 
 use crate::answer::{Answer, answer_to, first_word};
 use crate::tell::tell;
@@ -27,7 +27,7 @@ where
     ensures { (answer : Answer)
         × IsAnswer method (request_of (map string_bytes words.now))
         (file_name (map string_bytes words.now)) (option_map R.remaining file) answer
-        × IsTold usage answer result
+        × IsResultWritten usage answer result
         (O.contents out.old) (O.contents out.new) (E.contents err.old) (E.contents err.new) }
 {
     let answer = answer_of(alloc, words, method, file);

@@ -1,7 +1,6 @@
 //! What `lrtab` shows of a grammar.
 ghost use Rattle.std.specs.Prelude.{◌≡◌, IfOk, map, string_bytes, false, is_ok, if◌then◌else◌};
 ghost use Rattle.lalrpop_base.specs.Words.{IsWellFormed};
-ghost use Rattle.lalrpop_grammar.specs.declared.repr.TerminalString.TheVariants.{Literal};
 ghost use Rattle.lrtab_run.specs.Words.{Parse, Report, Explain, request_view};
 ghost use Rattle.lrtab_run.specs.Shown.{IsCountText, IsShown, IsTaskShown, IsTextOf};
 ghost use Rattle.lrtab_run.specs.Answers.{IsShownWhole};
@@ -9,14 +8,13 @@ ghost use Rattle.lrtab_run.specs.Answers.{IsShownWhole};
 use crate::answer::Shown;
 use crate::ask::Ask;
 use crate::explain::explanation;
-use crate::words::{Request, Task};
+use crate::words::{Request, Task, tokens_of};
 use grammar_text::symbols::name_of;
 use lalrpop_base::lookahead::token_set::TokenSet;
 use lalrpop_base::lr1_core::state::{BuildError, Lr1Result};
 use lalrpop_base::memory::OutOfMemory;
+use lalrpop_base::repr::NonterminalString;
 use lalrpop_base::repr::grammar::Grammar;
-use lalrpop_base::repr::{NonterminalString, TerminalString};
-use lalrpop_base::text::Text;
 use lalrpop_lr1::headline::by_tables::parse_by_tables;
 use lalrpop_lr1::interpret::{InterpretError, ParseTree};
 use lalrpop_lr1::report::report_text;
@@ -161,15 +159,4 @@ fn text_of_count(alloc: Global, count: usize) -> Result<(u8, String), OutOfMemor
     ensures { IfOk result (λ o. IsCountText count o.0 (string_bytes o.1)) }
 {
     Ok((1, format!(in alloc; "conflicts: {count}\n")?))
-}
-
-// The arguments as literals.
-fn tokens_of(alloc: Global, words: &[String]) -> Result<Vec<TerminalString>, OutOfMemory>
-    ensures { IfOk result (λ tokens. tokens.items ≡ map Literal (map string_bytes words.now)) }
-{
-    let mut tokens = Vec::new(alloc);
-    for word in words {
-        tokens.push(TerminalString::Literal(Text::new(alloc, word.as_str())?))?;
-    }
-    Ok(tokens)
 }

@@ -1,6 +1,6 @@
 //! How the result of a program is written.
 ghost use Rattle.std.specs.Prelude.{◌≡◌, ◌⊎◌, string_bytes};
-ghost use Rattle.lrtab_run.specs.Told.{IsTold, IsWritten, IsCutOff};
+ghost use Rattle.lrtab_run.specs.Written.{IsResultWritten, IsWritten, IsPartlyWritten};
 ghost use Rattle.lrtab_run.specs.Output.{AppendsBeginning};
 
 use crate::answer::{Answer, Shown};
@@ -10,7 +10,7 @@ use std::io::Write;
 /// Writes a result to `out` and `err`, and returns the exit status: 2 for a faulty input or output,
 /// 3 for an allocation failure. Each program has its own usage text.
 pub fn tell<O: Write, E: Write>(answer: &Answer, usage: &str, out: &mut O, err: &mut E) -> u8
-    ensures { IsTold usage.now answer.now result (O.contents out.old) (O.contents out.new)
+    ensures { IsResultWritten usage.now answer.now result (O.contents out.old) (O.contents out.new)
         (E.contents err.old) (E.contents err.new) }
 {
     match answer {
@@ -27,7 +27,7 @@ fn tell_shown<O: Write, E: Write>(shown: &Shown, out: &mut O, err: &mut E) -> u8
     ensures { ((result ≡ shown.now.status)
         × IsWritten (string_bytes shown.now.text) (string_bytes shown.now.remark)
         (O.contents out.old) (O.contents out.new) (E.contents err.old) (E.contents err.new))
-        ⊎ ((result ≡ 2) × IsCutOff (string_bytes shown.now.text)
+        ⊎ ((result ≡ 2) × IsPartlyWritten (string_bytes shown.now.text)
         (O.contents out.old) (O.contents out.new) (E.contents err.old) (E.contents err.new)) }
 {
     if !write_whole(out, shown.text.as_bytes()) {

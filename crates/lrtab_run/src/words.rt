@@ -1,10 +1,15 @@
 //! The arguments of the command line.
-ghost use Rattle.std.specs.Prelude.{◌≡◌, option_map, map, string_bytes};
+ghost use Rattle.std.specs.Prelude.{◌≡◌, IfOk, option_map, map, string_bytes};
+ghost use Rattle.lalrpop_grammar.specs.declared.repr.TerminalString.TheVariants.{Literal};
 ghost use Rattle.std.specs.Str.{all_ascii_digits};
 ghost use Rattle.lrtab_run.specs.Words.{limit_of, lone_task, method_of, task_of, task_view, request_of, request_view};
 
 use grammar_text::symbols::is_a_name;
+use lalrpop_base::memory::OutOfMemory;
+use lalrpop_base::repr::TerminalString;
+use lalrpop_base::text::Text;
 use lalrpop_tables::build::Method;
+use std::alloc::Global;
 
 /// What is asked of the tables of a grammar.
 #[derive(Clone, Copy)]
@@ -101,4 +106,15 @@ fn are_digits(bytes: &[u8]) -> bool
         }
     }
     true
+}
+
+/// Arguments as literals. `OutOfMemory` if an allocation fails.
+pub fn tokens_of(alloc: Global, words: &[String]) -> Result<Vec<TerminalString>, OutOfMemory>
+    ensures { IfOk result (λ tokens. tokens.items ≡ map Literal (map string_bytes words.now)) }
+{
+    let mut tokens = Vec::new(alloc);
+    for word in words {
+        tokens.push(TerminalString::Literal(Text::new(alloc, word.as_str())?))?;
+    }
+    Ok(tokens)
 }

@@ -177,10 +177,10 @@ fn each_closed_output(
             };
             let file = Some(text.as_bytes());
             let got = run(alloc, &words, method, file, &mut out, &mut err);
-            let owed = if left < whole { 2 } else { status };
+            let expected = if left < whole { 2 } else { status };
             let said = if left < whole { "cannot write\n" } else { "" };
             assert_eq!(rt; out.taken, left, "{then:?} after {left}");
-            assert_eq!(rt; got, owed, "{then:?} after {left}");
+            assert_eq!(rt; got, expected, "{then:?} after {left}");
             assert_eq!(rt; err.as_slice(), said.as_bytes(), "{then:?} after {left}");
         }
     }

@@ -42,9 +42,9 @@ impl Attempt for Program<'_> {
             let told = self.out.is_empty() && self.err.as_slice() == b"out of memory\n".as_slice();
             return if told { None } else { Some(false) };
         }
-        let owed = self.out.as_slice() == self.wanted.as_slice()
+        let expected = self.out.as_slice() == self.wanted.as_slice()
             && self.err.as_slice() == self.remark.as_slice();
-        Some(owed && status == self.status)
+        Some(expected && status == self.status)
     }
 }
 

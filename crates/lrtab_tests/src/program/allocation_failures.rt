@@ -45,12 +45,12 @@ impl Attempt for Program<'_> {
             let told = self.out.is_empty() && is_text(&self.err, "out of memory\n");
             return if told { None } else { Some(false) };
         }
-        let owed = if status == 2 {
+        let expected = if status == 2 {
             self.out.is_empty() && is_text(&self.err, self.wanted)
         } else {
             self.err.is_empty() && is_text(&self.out, self.wanted)
         };
-        Some(owed && status == self.status)
+        Some(expected && status == self.status)
     }
 }
 
@@ -141,8 +141,16 @@ fn each_growth_of_a_report(rt: HostRuntime) -> Result<(), Fail> {
 #[test]
 fn each_growth_by_the_lane_way(rt: HostRuntime) -> Result<(), Fail> {
     let text = "S = \"x\"";
-    let owed = ONE_TERMINAL_BY_LANES;
-    each_growth_refused(&rt, rt.alloc(), Method::Lane, text, "f S report", owed, 0)
+    let expected = ONE_TERMINAL_BY_LANES;
+    each_growth_refused(
+        &rt,
+        rt.alloc(),
+        Method::Lane,
+        text,
+        "f S report",
+        expected,
+        0,
+    )
 }
 
 #[test]
@@ -155,9 +163,9 @@ fn each_growth_of_a_report_of_conflicts(rt: HostRuntime) -> Result<(), Fail> {
 #[test]
 fn each_growth_of_an_explanation(rt: HostRuntime) -> Result<(), Fail> {
     let line = "f S explain";
-    let owed = ONE_EXAMPLE_EXPLAINED;
+    let expected = ONE_EXAMPLE_EXPLAINED;
     for method in [Method::Lane, Method::Canonical] {
-        each_growth_refused(&rt, rt.alloc(), method, ONE_EXAMPLE, line, owed, 1)?;
+        each_growth_refused(&rt, rt.alloc(), method, ONE_EXAMPLE, line, expected, 1)?;
     }
     Ok(())
 }

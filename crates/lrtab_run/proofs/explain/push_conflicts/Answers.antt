@@ -10,18 +10,18 @@ explain-requires-clause-conflict c = c.requires.conflicts c.index-conflicts-plac
 
 pub loop-place-preserved : goal.loop-place-preserved
 loop-place-preserved c =
-    let ground = c.args.explainer.now.ground in
+    let context = c.args.explainer.now.context in
     let number = c.loop-place.place + 1 in
     let explained = c.in_ok-explained.explained in
-    done_more (IsConflictPart ground.first_sets.now ground.states.now) 1 c.args.conflicts.now c.loop-place.place c.index-conflicts-place.result (string_bytes c.args.text.now) (string_bytes c.loop-place.text) (string_bytes c.push_conflict.new.text)
+    done_more (IsConflictPart context.first_sets.now context.states.now) 1 c.args.conflicts.now c.loop-place.place c.index-conflicts-place.result (string_bytes c.args.text.now) (string_bytes c.loop-place.text) (string_bytes c.push_conflict.new.text)
     c.loop-place.invariant c.loop-place-test.true c.index-conflicts-place.is
     (record {
-      added = conflict_text ground.first_sets.now.terminals number explained;
-      holds = conflict_part ground.first_sets.now ground.states.now number c.index-conflicts-place.result explained c.in_ok-explained.ensures.explained;
+      added = conflict_text context.first_sets.now.terminals number explained;
+      holds = conflict_part context.first_sets.now context.states.now number c.index-conflicts-place.result explained c.in_ok-explained.ensures.explained;
       grown = c.in_ok-push_conflict.ensures ∙ ap (λ terminals. string_bytes c.loop-place.text ++ conflict_text terminals number explained) c.requires.numbered;
     })
 
 pub returns : goal.returns
 returns c =
-    let ground = c.args.explainer.now.ground in
-    done_all (IsConflictPart ground.first_sets.now ground.states.now) 1 c.args.conflicts.now c.loop-place.place (string_bytes c.args.text.now) (string_bytes c.loop-place.text) c.loop-place.invariant c.loop-place-test.false
+    let context = c.args.explainer.now.context in
+    done_all (IsConflictPart context.first_sets.now context.states.now) 1 c.args.conflicts.now c.loop-place.place (string_bytes c.args.text.now) (string_bytes c.loop-place.text) c.loop-place.invariant c.loop-place-test.false

@@ -4,4 +4,4 @@ use Rattle.lrtab_run.proofs.ExplainedParts.{AreDone}
 use Rattle.lrtab_run.proofs.explain.push_conflicts.Given as goal
 
 abbrev pub invariant-loop-place : goal.invariant-loop-place
-invariant-loop-place l = AreDone (IsConflictPart l.explainer.ground.first_sets.now l.explainer.ground.states.now) 1 l.conflicts l.place (string_bytes l.fn.text) (string_bytes l.text)
+invariant-loop-place l = AreDone (IsConflictPart l.explainer.context.first_sets.now l.explainer.context.states.now) 1 l.conflicts l.place (string_bytes l.fn.text) (string_bytes l.text)

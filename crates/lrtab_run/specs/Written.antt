@@ -21,14 +21,14 @@ pub record IsWritten (text remark : List ℕ) (out_old out_new err_old err_new :
   pub kept : remark ≡ [] → Keeps err_old err_new
 
 -- standard output failed: a beginning of the text went to it, and the message to standard error
-pub record IsCutOff (text : List ℕ) (out_old out_new err_old err_new : Option (List ℕ)) : Type 0 where
+pub record IsPartlyWritten (text : List ℕ) (out_old out_new err_old err_new : Option (List ℕ)) : Type 0 where
   pub written : AppendsBeginning out_old out_new text
   pub told : AppendsBeginning err_old err_new (line (codes "cannot write"))
 
 -- a result has an exit status, and went to the two streams; each program has its own usage text
-abbrev pub IsTold : List ℕ → Answer → ℕ → Option (List ℕ) → Option (List ℕ) → Option (List ℕ) → Option (List ℕ) → Type 0
-IsTold usage (Output s) result o p e f = ((result ≡ s.status) × IsWritten (string_bytes s.text) (string_bytes s.remark) o p e f) ⊎ ((result ≡ 2) × IsCutOff (string_bytes s.text) o p e f)
-IsTold usage (Fault text) result o p e f = (result ≡ 2) × IsComplaint (string_bytes text) o p e f
-IsTold usage Usage result o p e f = (result ≡ 2) × IsComplaint usage o p e f
-IsTold usage TooManyActions result o p e f = (result ≡ 2) × IsComplaint (line (codes "too many actions")) o p e f
-IsTold usage Memory result o p e f = (result ≡ 3) × IsComplaint (line (codes "out of memory")) o p e f
+abbrev pub IsResultWritten : List ℕ → Answer → ℕ → Option (List ℕ) → Option (List ℕ) → Option (List ℕ) → Option (List ℕ) → Type 0
+IsResultWritten usage (Output s) result o p e f = ((result ≡ s.status) × IsWritten (string_bytes s.text) (string_bytes s.remark) o p e f) ⊎ ((result ≡ 2) × IsPartlyWritten (string_bytes s.text) o p e f)
+IsResultWritten usage (Fault text) result o p e f = (result ≡ 2) × IsComplaint (string_bytes text) o p e f
+IsResultWritten usage Usage result o p e f = (result ≡ 2) × IsComplaint usage o p e f
+IsResultWritten usage TooManyActions result o p e f = (result ≡ 2) × IsComplaint (line (codes "too many actions")) o p e f
+IsResultWritten usage Memory result o p e f = (result ≡ 3) × IsComplaint (line (codes "out of memory")) o p e f
