@@ -14,6 +14,7 @@ COMMANDS = {
     "replay": ("gate.replay.lrtab", "replays the stored cases of lrtab"),
     "replay-by-data": ("gate.replay.by_data", "replays parse cases by the data of lrshow"),
     "report-of-data": ("gate.replay.report_of_data", "lays reports out from the data of lrshow"),
+    "warnings": ("gate.replay.warnings", "compares the warnings of lrshow with their definitions"),
     "hostile": ("gate.hostile.command", "runs lrtab and lrshow on random and deep inputs"),
     "growths": ("gate.growths", "asks each public call while memory ends in it"),
     "case-files": ("gate.case_files", "tries lalrpop_bench on faulty case files"),

@@ -32,15 +32,15 @@ TRIALS = {
     "a case that is lost": ("# A remark.\n", "a.cases: 0 agree, 0 differ\n0 agree, 0 differ\n", 0),
     "a changed letter": (
         f'{ASK}tokens "y"\nend\n',
-        f'a.cases, line 3: ask first0 S\n  owed:     tokens "y"\n  answered: tokens "x"\n{DIFFERS}', 1),
+        f'a.cases, line 3: ask first0 S\n  expected: tokens "y"\n  returned: tokens "x"\n{DIFFERS}', 1),
     "an expected line too many": (
         f'{ASK}tokens "x"\nmore\nend\n',
-        f"a.cases, line 3: ask first0 S\n  owed:     more\n  answered: \n{DIFFERS}", 1),
+        f"a.cases, line 3: ask first0 S\n  expected: more\n  returned: \n{DIFFERS}", 1),
     **{name: (text, f"a.cases, line {fault}\n{ONE}", 2) for name, (text, fault) in FAULTS.items()},
     "bytes that are not UTF-8": (
         f'grammar\nS = "\udcff"\nask first0 S\ntokens -\nend\n{BLOCK}',
-        "a.cases, line 2: not UTF-8\na.cases, line 3: ask first0 S\n  owed:     tokens -\n"
-        '  answered: tokens "\ufffd"\na.cases: 1 agree, 1 differ\n1 agree, 1 differ\n', 2),
+        "a.cases, line 2: not UTF-8\na.cases, line 3: ask first0 S\n  expected: tokens -\n"
+        '  returned: tokens "\ufffd"\na.cases: 1 agree, 1 differ\n1 agree, 1 differ\n', 2),
     "a file that cannot be read": (BLOCK, f"b.cases: cannot be read\n{ONE}", 2, "b.cases", "a.cases"),
 }
 

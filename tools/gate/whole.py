@@ -27,6 +27,7 @@ AFTER = (
     ("replays of lrtab", "replay"),
     ("replays by the data of lrshow", "replay-by-data"),
     ("listings of the data of lrshow", "report-of-data"),
+    ("warnings of lrshow", "warnings"),
     ("hostile runs of lrtab and lrshow", "hostile"),
     ("growths refused in turn", "growths"),
     ("case files with faults", "case-files"),

@@ -16,7 +16,7 @@ import multiprocessing
 import os
 
 from gate.files import ROOT
-from gate.hostile import deep, trials
+from gate.hostile import trials
 
 # How many inputs of each program are random, and how many faults are printed.
 INPUTS, SHOWN_INPUTS, FAULTS = 10_000, 1_000, 10
@@ -29,7 +29,7 @@ def given(words):
     parser.add_argument("lrshow", nargs="?", default=f"{ROOT}/crates/lrshow/out/lrshow")
     parser.add_argument("--show", metavar="RUN")
     numbers = [*map(str, range(INPUTS)), *(f"{trials.SHOWN}{it}" for it in range(SHOWN_INPUTS))]
-    parser.add_argument("--only", metavar="RUN", nargs="+", default=[*deep.DEEP, *numbers])
+    parser.add_argument("--only", metavar="RUN", nargs="+", default=[*trials.DEEP, *numbers])
     parser.add_argument("--seconds", metavar="COUNT", type=float)
     how = parser.parse_args(words)
     how.programs = [os.path.realpath(it) for it in (how.lrtab, how.lrshow)]
@@ -39,8 +39,8 @@ def given(words):
 def wrong_usage(how):
     """Why the runs cannot be made, or None: one that there is not, or a program that is missing."""
     for run in [it for it in (how.show, *how.only) if it]:
-        if not trials.is_random(run) and run not in deep.DEEP:
-            return f"no run is {run}; the deep ones are {', '.join(deep.DEEP)}"
+        if not trials.is_random(run) and run not in trials.DEEP:
+            return f"no run is {run}; the deep ones are {', '.join(trials.DEEP)}"
     needed = sorted({it.startswith(trials.SHOWN) for it in how.only}) if not how.show else []
     lacking = [how.programs[it] for it in needed if not os.access(how.programs[it], os.X_OK)]
     return f"{lacking[0]}: no such program (rt ci leaves one after all is proved)" if lacking else None

@@ -1,4 +1,4 @@
-"""Inputs of `lrtab` and `lrshow` that nest deep, or are long or many.
+"""Inputs of `lrtab` that nest deep, or are long or many, and the parts of such inputs.
 
 Each has its limits. What is expected of it follows from its own shape.
 """
@@ -9,10 +9,7 @@ import re
 from gate.hostile import reading
 from gate.hostile.forms import NUMBER
 from gate.hostile.reports import check_report
-from gate.hostile.shown_verdicts import check_data, check_shown
-from gate.hostile.verdicts import Answer, Request
-from gate.shown import data as shown_data
-from gate.shown import graph, page
+from gate.hostile.verdicts import Answer
 from gate.shown.data import WrongData, expect
 
 MEGABYTE = 1 << 20
@@ -26,7 +23,6 @@ BLANKS = 2_500_000
 LISTS = ["T = S", 'S = S "a"', "S ="]
 # A limit that no parse of these reaches.
 ENOUGH = "{} parse 99999999"
-EQUAL, STATES = 142, 400
 LEAF, LONG_NAME, LONG_WORD = '"x"', "N" * 2_000_000, "x" * 120_000
 
 # The words are texts or bytes. `expected` raises `WrongData` at a wrong answer. `seconds` are of
@@ -35,9 +31,11 @@ LEAF, LONG_NAME, LONG_WORD = '"x"', "N" * 2_000_000, "x" * 120_000
 Case = collections.namedtuple("Case", "text words expected methods stack memory seconds lane")
 
 
-def trial(lines, words, expected, tokens=(), stack=SMALL_STACK, memory=MEMORY, seconds=SECONDS, methods=METHODS):
+def trial(
+    lines, words, expected, tokens=(), stack=SMALL_STACK, memory=MEMORY, seconds=SECONDS, methods=METHODS, file="g",
+):
     text = "".join(f"{line}\n" for line in lines) if isinstance(lines, list) else lines
-    return Case(text.encode(), ["g", *words.split(), *tokens], expected, methods, stack, memory, seconds, None)
+    return Case(text.encode(), [file, *words.split(), *tokens], expected, methods, stack, memory, seconds, None)
 
 
 def printed(line, status=0):
@@ -114,35 +112,6 @@ def check_tail(task, rules, rest, answer):
     check_text("".join(f"{it}\n" for it in rest), others, "the other lines")
 
 
-def shown_trial(lines, form, conflicts=0, around=None):
-    """All data of the lines are expected, and so many conflicts."""
-    start = lines[0].split()[0]
-    words = f"{start} {form}" if around is None else f"{start} {form} --around {around}"
-    request = Request("g", start, form, around, [])
-    return trial(lines, words, functools.partial(check_shown_answer, lines, request, conflicts))
-
-
-def check_shown_answer(lines, request, conflicts, answer):
-    if request.task == "dot":
-        check_graph(answer, request.number, conflicts)
-        return
-    text = answer.stdout
-    data = shown_data.read(page.held(text.decode()).encode() if request.task == "html" else text)
-    expect(len(data["conflicts"]) == conflicts, f"expected {conflicts} conflicts")
-    check_data(data, request.start, reading.read("\n".join(lines)))
-    check_shown(answer, request, data)
-
-
-def check_graph(answer, around, conflicts):
-    """A graph that is well-formed, and has as many red lines as there are conflicts."""
-    expect(answer.status == (1 if conflicts else 0), f"expected another status than {answer.status}")
-    nodes, edges = graph.read(answer.stdout.decode(), around)
-    remark = graph.remark_on(len(edges), around)
-    expect(answer.stderr == remark.encode(), f"expected {remark!r} on standard error")
-    reds = sum(is_red for _, lines, *_ in nodes for _, is_red in lines)
-    expect(reds == conflicts, f"expected {conflicts} red lines")
-
-
 RECURSIONS = {
     "right_recursion": lambda count, stack: trial(
         ['S = "a" S', 'S = "b"'], ENOUGH.format("S"), printed('[S: "a", ' * count + '[S: "b"]' + "]" * count),
@@ -217,28 +186,4 @@ DEEP = {
     "explained_suffixes": lambda: tail_of_chain("explain", SUFFIXES, 2 * [REDUCED, SUFFIXED]),
     "reported_reductions": lambda: tail_of_chain("report", REDUCTIONS),
     "reported_shift": lambda: tail_of_chain("report", SHIFT),
-}
-NAME, LONG = "N" * 500_000, "S = " + '"x" ' * 5_000
-# Of `lrshow`: names, lines, how many conflicts they have, and the forms that are tried.
-FORMS = ("json", "dot", "html")
-SHAPES = (
-    # Of equal productions each two are in conflict.
-    ("conflicts", EQUAL * ['S = "x"'], EQUAL * (EQUAL - 1) // 2, FORMS),
-    # An example is as long as the chain of names.
-    ("suffixes", SUFFIXES, 1, ("json", "html")),
-    ("units", chain("N", UNITS // 2, LEAF), 0, ("json", "html")),
-    ("long_name", [f"S = {NAME}", f'{NAME} = "x"'], 0, FORMS),
-    ("long_literal", [f'S = "{"<" * 100_000}"'], 0, FORMS),
-    ("terminals", [f'S = "t{it}"' for it in range(STATES)], 0, FORMS),
-    ("long_right_side", [LONG], 0, ("json",)),
-    ("long_right_side", ["S = " + '"x" ' * STATES], 0, ("dot",)),
-)
-DEEP |= {
-    # There is no memory to list the conflicts.
-    "shown_equal_lines": lambda: little(10_000 * ['S = "x"'], "S json", NO_MEMORY, 256),
-    "shown_marked_doubling": lambda: little(DOUBLED, "S html", NO_MEMORY, 512),
-    "shown_marked_ring": lambda: marked("a0", CYCLE, "S html"),
-    **{f"shown_{name}_as_{form}": functools.partial(shown_trial, lines, form, count)
-       for name, lines, count, forms in SHAPES for form in forms},
-    "shown_long_right_side_around_a_state": functools.partial(shown_trial, [LONG], "dot", 0, 2_500),
 }

@@ -1,18 +1,46 @@
 """What docs/FORMATS.md says of a run of `lrshow`, and what is wrong with an answer."""
 import collections
+import re
 
 from gate.hostile import reading
 from gate.hostile.forms import check_explanation
 from gate.hostile.reports import check_report
-from gate.hostile.verdicts import Program, check_conflicts, fault_in, faults_of
+from gate.hostile.verdicts import Program, check_conflicts, fault_in, faults_of, number_of, quoted
+from gate.hostile.words import SHOWN_READABLE
+from gate.shown import causes, checks, doubts, graph, page, tree
 from gate.shown import data as shown_data
-from gate.shown import graph, page
 from gate.shown.data import expect
 from gate.shown.listings import Listings
 
-LRSHOW = Program(
-    "usage: lrshow FILE START (json | dot [--around STATE] | html)", ("json", "dot", "html"), ["dot", "--around"], False
+USAGE = (
+    "usage: lrshow FILE START (check [--json] | conflicts | tree [--dot] TOKEN.. | json | "
+    "dot [--around STATE [--depth N] | --conflicts] | html)"
 )
+
+
+def choice_of(words):
+    """What a graph shows, as a list of one, or an empty list where the words have another form."""
+    if words in ([], ["--conflicts"]):
+        return [graph.CONFLICTS if words else None]
+    state, depth = number_of(words[1]) if len(words) > 1 else None, number_of(words[3]) if len(words) == 4 else 1
+    has_form = len(words) in (2, 4) and words[0] == "--around" and words[2:3] in ([], ["--depth"])
+    if not has_form or state is None or depth is None:
+        return []
+    return [state if depth == 1 else graph.Near(state, depth)]
+
+
+def asked_of_lrshow(task, words):
+    """The task, what a graph shows, and the tokens, or None where the words have another form."""
+    if task == "tree":
+        return (f"{task} --dot", None, quoted(words[1:])) if words[:1] == ["--dot"] else (task, None, quoted(words))
+    if task == "dot":
+        return next(((task, it, []) for it in choice_of(words)), None)
+    if task == "check" and words == ["--json"]:
+        return f"{task} --json", None, []
+    return (task, None, []) if task in ("check", "conflicts", "json", "html") and not words else None
+
+
+LRSHOW = Program(USAGE, asked_of_lrshow, SHOWN_READABLE)
 
 
 def check_data(data, start, grammar):
@@ -37,37 +65,88 @@ def check_data(data, start, grammar):
         check_explanation(listings.explanation(), rules, literals)
 
 
+def state_of(choice):
+    """The number of the state that a graph is to show, or None."""
+    return choice.number if isinstance(choice, graph.Near) else None if choice == graph.CONFLICTS else choice
+
+
+def no_start(data):
+    """The message if the start symbol has no production, or an empty text."""
+    names = {it["nonterminal"] for it in data["productions"]}
+    near = doubts.nearest_of(data["start"], names)
+    hint = f"; perhaps `{near}` is meant" if near else ""
+    return "" if data["start"] in names else f"`{data['start']}` has no production{hint}\n"
+
+
 def check_shown(answer, request, data):
     """An answer shows some data."""
-    count = len(data["states"])
-    status, remark = 1 if data["conflicts"] else 0, graph.remark_on(graph.edges_of(data), request.number)
-    if request.number is not None and request.number >= count:
-        status, remark = 2, f"no state {request.number}\n"
+    is_tree = request.task.startswith("tree")
+    if (is_tree or request.task == "conflicts") and (message := no_start(data)):
+        expected = 2, b"", message.encode()
+        expect((answer.status, answer.stdout, answer.stderr) == expected, f"expected {expected}")
+        return
+    if is_tree:
+        tree.check(answer, data, [it[1:-1] for it in request.tokens], request.task == "tree --dot")
+        return
+    state, remark = state_of(request.number), graph.remark_on(graph.edges_of(data), request.number, data["conflicts"])
+    status = 1 if data["conflicts"] else 0
+    if state is not None and state >= len(data["states"]):
+        status, remark = 2, f"no state {state}\n"
     remark = remark if request.task == "dot" else ""
     is_right = (answer.status, answer.stderr) == (status, remark.encode())
     expect(is_right, f"expected status {status} and {remark!r} on standard error")
+    text = answer.stdout.decode()
     if status == 2:
-        expect(answer.stdout == b"", "a text on standard output")
+        expect(text == "", "a text on standard output")
     elif request.task == "dot":
-        graph.check(answer.stdout.decode(), data, request.number)
+        graph.check(text, data, request.number)
     elif request.task == "html":
-        page.check(answer.stdout.decode(), data)
+        page.check(text, data)
+    elif request.task == "conflicts":
+        causes.check_text(text, causes.visible(data), expect)
+
+
+def check_check(answer, request, text, data):
+    """A check of a text is right. The data, or None where none are expected, have the conflicts."""
+    text = b"" if request.file.startswith("/") else text
+    expect(answer.stderr == b"", "a text on standard error")
+    check = checks.check_json if request.task == "check --json" else checks.check
+    count = None if data is None else len(data["conflicts"])
+    check(answer.status, answer.stdout.decode(), text.decode(), request.start, request.file, count)
 
 
 def fault_of(text, words, answer, data_answer):
     """What is wrong with an answer of `lrshow`, or None. `data_answer` is that for the data."""
     lines, request, grammar = faults_of(LRSHOW, text, words)
 
-    def check():
+    def checked_data():
         data = shown_data.read(data_answer.stdout)
-        check_shown(data_answer, request._replace(task="json", number=None), data)
+        check_shown(data_answer, request._replace(task="json", number=None, tokens=[]), data)
         check_data(data, request.start, grammar)
-        check_shown(answer, request, data)
+        return data
 
-    return fault_in([answer, data_answer], lines, check)
+    is_check = request is not None and request.task.startswith("check")
+    if is_check and lines[:1] != [f"cannot read {request.file}"]:
+        # (a check writes the faults of a text to standard output)
+        def check():
+            check_check(answer, request, text, None if lines else checked_data())
+
+        return fault_in([answer, data_answer], [], check)
+    return fault_in([answer, data_answer], lines, lambda: check_shown(answer, request, checked_data()))
 
 
 def difference_of(lane, canonical):
     """In what the data by the two methods differ where they must not, or None."""
     has_tables = lane.status == canonical.status == 0
     return None if has_tables or lane == canonical else "the two methods report different conflicts"
+
+
+def difference_of_input(words, answer, file_answer):
+    """In what an answer for standard input differs from that for the file `g`, or None."""
+    output, errors = file_answer.stdout, file_answer.stderr
+    if words[2:] == [b"check"]:
+        output = re.sub(b"(?m)^g:", b"-:", output)
+    if errors == b"cannot read g\n":
+        errors = b"cannot read -\n"
+    is_same = answer == file_answer._replace(stdout=output, stderr=errors)
+    return None if is_same else "for standard input it answers otherwise than for the file"

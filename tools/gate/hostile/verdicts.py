@@ -8,11 +8,8 @@ from gate.hostile.reports import check_report
 from gate.hostile.words import READABLE
 from gate.shown.data import WrongData, expect
 
-# The tasks that take no more words; the words before a number, and whether tokens follow it.
-Program = collections.namedtuple("Program", "usage tasks numbered has_tokens")
-LRTAB = Program(
-    "usage: lrtab FILE START (parse LIMIT TOKEN.. | report | explain)", ("report", "explain"), ["parse"], True
-)
+# The usage text, what words after FILE and START ask for, and the files that can be read.
+Program = collections.namedtuple("Program", "usage asked files")
 GREATEST = 18446744073709551615
 # A refusal of few tokens by a small grammar makes fewer steps.
 MANY_STEPS = 10_000
@@ -20,8 +17,30 @@ TREE = "a tree"
 
 # `status` is negative for a signal, and None where the time ran out. Outputs are bytes.
 Answer = collections.namedtuple("Answer", "status stdout stderr")
-# `number` is LIMIT, or the STATE of `lrshow`, or None. `tokens` are literals with quotes.
+# `number` is LIMIT, or what a graph of `lrshow` shows. `tokens` are literals with quotes.
 Request = collections.namedtuple("Request", "file start task number tokens")
+
+
+def number_of(word):
+    """The number of decimal digits alone, or None where the word is none or the number is too large."""
+    digits = word.lstrip("0") or "0"
+    is_number = re.fullmatch("[0-9]+", word) and len(digits) <= len(str(GREATEST)) and int(digits) <= GREATEST
+    return int(digits) if is_number else None
+
+
+def quoted(words):
+    return [f'"{it}"' for it in words]
+
+
+def asked_of_lrtab(task, words):
+    """The task, the limit and the tokens, or None where the words have another form."""
+    if task in ("report", "explain") and not words:
+        return task, None, []
+    limit = number_of(words[0]) if task == "parse" and words else None
+    return None if limit is None else (task, limit, quoted(words[1:]))
+
+
+LRTAB = Program("usage: lrtab FILE START (parse LIMIT TOKEN.. | report | explain)", asked_of_lrtab, READABLE)
 
 
 def request_of(program, words):
@@ -30,17 +49,8 @@ def request_of(program, words):
         words = [it.decode() for it in words]
     except UnicodeDecodeError:
         return None
-    if len(words) < 3 or not reading.is_name(words[1]):
-        return None
-    if len(words) == 3 and words[2] in program.tasks:
-        return Request(*words, None, [])
-    place = 2 + len(program.numbered)
-    number, tokens = "".join(words[place:place + 1]), [f'"{it}"' for it in words[place + 1:]]
-    is_known = words[2:place] == program.numbered and (program.has_tokens or not tokens)
-    digits = number.lstrip("0") or "0"
-    if not is_known or not re.fullmatch("[0-9]+", number) or len(digits) > len(str(GREATEST)) or int(digits) > GREATEST:
-        return None
-    return Request(*words[:3], int(digits), tokens)
+    asked = program.asked(words[2], words[3:]) if len(words) > 2 and reading.is_name(words[1]) else None
+    return Request(*words[:2], *asked) if asked else None
 
 
 def faults_of(program, text, words):
@@ -49,7 +59,7 @@ def faults_of(program, text, words):
     if request is None:
         return [program.usage], None, None
     no_text = [f"cannot read {request.file}"], request, None
-    if request.file not in READABLE:
+    if request.file not in program.files:
         return no_text
     try:
         grammar = reading.read((b"" if request.file.startswith("/") else text).decode())

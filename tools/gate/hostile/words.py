@@ -18,18 +18,22 @@ VERBS = ("", "Parse", "parse ", "reports", "REPORT", "explain\n", "-h", "lex", "
 SHOWN_VERBS = (
     "", "JSON", "json json", "json --around 0", "html 0", "html --around 0", "dot 0", "dot --around",
     "dot 0 --around", "dot -around 0", "dot --around=0", "dot --around 0 0", "dot --around 0 --around 0", "report",
-    "parse 1", "explain", "svg",
+    "parse 1", "explain", "svg", "check 0", "check --around 0", "check --json --json", "conflicts 0", "dot --depth 1",
+    "dot --depth 1 --around 0", "dot --around 0 --depth", "dot --around 0 --depth x", "dot --conflicts 0",
+    "dot --around 0 --depth 1 1", "trees",
 )
 ODD_TOKENS = (
     "", "-", "--", "--help", "Eof", '"', '"a"', "a b", "\n", "\t", "é", "\u2028", "🦀", "?", "[S: ]", "]",
     "T" * 2_000, "unknown", "a\r", "\\",
 )
 NO_UTF8 = (b"\xff", b"a\x80", b"\xc3", b"\xed\xa0\x80", b"\xc0\x80", b"\xf5\x80\x80\x80")
-# Files that can be read: the grammar's, and one that is empty; and others that cannot be read.
+# Files that can be read: the grammar's, and one that is empty; and others that cannot be read. The last
+# one is standard input for `lrshow`, and the name of a file for `lrtab`.
 READABLE = ("g", "./g", ".//g", "/dev/null")
 NOT_READABLE = (
-    "none", ".", "..", "g/", "g/g", "", "\n", "é", "none/g", "n" * 300, "n" * 5_000, "/", "'g'", "g ", "-", "--",
+    "none", ".", "..", "g/", "g/g", "", "\n", "é", "none/g", "n" * 300, "n" * 5_000, "/", "'g'", "g ", "--", "-",
 )
+SHOWN_READABLE = (*READABLE, "-")
 
 
 class Inputs(Grammars):
@@ -37,7 +41,7 @@ class Inputs(Grammars):
 
     def random_words(self, rules, text):
         """Words of `lrtab` as bytes, for a file's text, and the rules from which it was made."""
-        words = [self.file_of(), self.one_of(NO_STARTS) if self.is_one_in(30) else self.start_of(rules)]
+        words = [self.file_of(READABLE), self.one_of(NO_STARTS) if self.is_one_in(30) else self.start_of(rules)]
         kind = self.below(20)
         if kind < 13:
             tokens = self.tokens_of(rules, words[1])
@@ -50,18 +54,23 @@ class Inputs(Grammars):
 
     def random_shown_words(self, rules):
         """Words of `lrshow` as bytes, for the rules from which a text was made."""
-        words = [self.file_of(), self.start_of(rules)]
+        words = [self.file_of((*READABLE, *6 * ["-"])), self.start_of(rules)]
         kind = self.below(20)
-        if kind < 13:
-            words += ["json" if kind < 5 else "html" if kind < 9 else "dot"]
+        if kind < 8:
+            words += [("json", "html", "dot", "check", "conflicts", "json", "html", "dot")[kind]]
+        elif kind < 10:
+            words += [("check", "--json"), ("dot", "--conflicts")][kind - 8]
+        elif kind < 13:
+            words += ["tree", *["--dot"] * self.below(2), *self.tokens_of(rules, words[1])]
         elif kind < 19:
             words += ["dot", "--around", str(self.below(9)) if self.below(8) else self.one_of(LIMITS + NO_LIMITS)]
+            words += ["--depth", str(self.below(5))] if kind > 15 else []
         else:
             words += self.one_of(SHOWN_VERBS).split(" ")
         return self.spoilt([it.encode() for it in words])
 
-    def file_of(self):
-        return self.one_of(NOT_READABLE) if self.is_one_in(30) else self.one_of(READABLE[:1] * 20 + READABLE)
+    def file_of(self, readable):
+        return self.one_of(NOT_READABLE) if self.is_one_in(30) else self.one_of(readable[:1] * 20 + readable)
 
     def start_of(self, rules):
         return rules[0][0] if rules and not self.is_one_in(5) else self.one_of(STARTS)

@@ -1,11 +1,14 @@
 """The data that `lrshow` writes, read as docs/FORMATS.md has them.
 
-Each member must be there, and each number and each name must refer to something.
+Each member must be there, and each number and each name must refer to something. The tokens of an
+item are listed in what is read, also where the data have `null` for all tokens.
 """
 import json
 
+from gate.shown import causes
+
 # The version of their form, and how many examples of an item are shown at most.
-VERSION, EXAMPLES = 1, 3
+VERSION, EXAMPLES = 2, 3
 
 
 class WrongData(Exception):
@@ -32,10 +35,13 @@ def read(text):
     try:
         data = json.loads(text.decode(), object_pairs_hook=once, parse_constant=no_number)
         Check(data)
+        causes.check(data, expect)
     except ValueError as why:
         raise WrongData(f"no JSON: {why}") from why
     except (AttributeError, KeyError, TypeError) as why:
         raise WrongData(f"data of another form: {why!r}") from why
+    for it in [it for state in data["states"] for it in state["items"] if it["lookahead"] is None]:
+        it["lookahead"] = [*data["terminals"], None]
     return data
 
 
@@ -52,8 +58,8 @@ class Check:
     """The check of data. It keeps the places of tokens, productions by numbers, and states."""
 
     def __init__(self, data):
-        names = "format version start terminals productions states conflicts"
-        form, version, start, terminals, productions, self.states, conflicts = members(data, names, "the whole")
+        names = "format version start terminals productions states conflicts causes"
+        form, version, start, terminals, productions, self.states, conflicts, _ = members(data, names, "the whole")
         expect((form, version) == ("lrshow", VERSION) and isinstance(start, str), "another format, version or start")
         expect(terminals == sorted(set(terminals), key=str.encode), "terminals twice, or in another order")
         self.tokens = {it: place for place, it in enumerate([*terminals, None])}
@@ -93,7 +99,9 @@ class Check:
             expect(it["production"] in self.rules, f"{what}: no production {it['production']!r}")
             length = len(self.rules[it["production"]]["symbols"])
             expect(is_below(it.get("dot", length), length + 1), f"{what}: dot {it.get('dot')!r} of {length}")
-            self.lookahead(it["lookahead"], what)
+            tokens = it["lookahead"]
+            self.lookahead([] if tokens is None and "dot" in it else tokens, what)
+            expect("dot" not in it or tokens is None or len(tokens) < len(self.tokens), f"{what}: an item lists all tokens")
         expect(all(it in self.tokens for it in shifts), f"{what}: shifts {list(shifts)}")
         targets = [*shifts.values(), *gotos.values()]
         expect(all(is_below(it, len(self.states)) for it in targets), f"{what}: an edge to no state")

@@ -1,9 +1,12 @@
 """The graph that `lrshow` writes, read as Graphviz reads it, and compared with its data."""
+import collections
+import math
 import re
 from xml.etree import ElementTree
 
 from gate.shown.data import WrongData, expect
 from gate.shown.listings import Listings, rule_of, token_of
+from gate.shown.visible import PICTURES
 
 OPENING = "digraph states {\n  node [shape=box fontname=monospace];\n  edge [fontname=monospace];\n"
 # What follows where one state and its neighbours are shown.
@@ -19,8 +22,6 @@ TAGS = {("B",), ("I",), ("FONT", ("COLOR", "red"))}
 ESCAPES = re.compile(r"\\([NGETHL\\])")
 # The most tokens of a reduction, and the most edges without a remark on how to cut the graph.
 TOKENS, MANY = 8, 200
-# Control characters have pictures. XML does not have two other characters.
-PICTURES = {**{it: 0x2400 + it for it in range(32)}, 127: 0x2421, 0xFFFE: 0xFFFD, 0xFFFF: 0xFFFD}
 
 
 def drawn(line):
@@ -35,13 +36,44 @@ def drawn(line):
     return text, any(it[0] == "FONT" for it in tags)
 
 
+# What a graph shows: None for all states, the number of a state for it and its neighbours, a Near, or
+# CONFLICTS for the states on shortest paths to conflicts.
+Near = collections.namedtuple("Near", "number depth")
+CONFLICTS = "conflicts"
+
+
+def distances(edges, start):
+    """How many edges are at least on a path from a state to each one that has a path."""
+    found, front = {start: 0}, [start]
+    while front:
+        new = sorted({to for at, to in edges if at in front} - set(found))
+        found |= {it: found[front[0]] + 1 for it in new}
+        front = new
+    return found
+
+
+def near(edges, choice):
+    """The states from which, or to which, a path of few edges leads."""
+    ahead, back = distances(edges, choice.number), distances({(to, at) for at, to in edges}, choice.number)
+    return {it for those in (ahead, back) for it, count in those.items() if count <= choice.depth}
+
+
+def to_conflicts(edges, ends):
+    """The states on shortest paths from state 0 to the ends."""
+    ahead, turned = distances(edges, 0), {(to, at) for at, to in edges}
+    found = set()
+    for end in [it for it in ends if it in ahead]:
+        found |= {it for it, count in distances(turned, end).items() if ahead.get(it, math.inf) + count == ahead[end]}
+    return found
+
+
 def read(text, around):
     """The nodes: numbers, lines, how many frames, whether they are red. The edges: two numbers, and looks."""
     is_large = around is None and text.startswith(OPENING + LARGE)
     opening = OPENING + (ACROSS if around is not None else LARGE * is_large)
     expect(text.startswith(opening) and text.endswith("\n}\n"), "a graph with another beginning or end")
     nodes, edges = [], []
-    for line in text[len(opening):-3].split("\n"):
+    for line in text[len(opening):-2].split("\n")[:-1]:
         if node := NODE.fullmatch(line):
             expect(not edges, "a node after an edge")
             *lines, rest = node[2].split(LINE_END)
@@ -55,9 +87,11 @@ def read(text, around):
     return nodes, edges
 
 
-def remark_on(count, around):
-    """What is printed on standard error about a graph with so many edges."""
-    cut = "edges: --around STATE shows one state and its neighbours"
+def remark_on(count, around, conflicts):
+    """What is printed on standard error about a graph with so many edges and conflicts."""
+    cut = "edges: --around STATE shows one state and its neighbours, --conflicts the paths to conflicts"
+    if around == CONFLICTS:
+        return "" if conflicts else "no conflicts\n"
     return f"{count} {cut}\n" if count > MANY and around is None else ""
 
 
@@ -67,10 +101,15 @@ def edges_of(data):
 
 
 class Drawn:
-    """What a graph has to show of some data, around a state or of all."""
+    """What a graph has to show of some data: of all states, or of some."""
 
     def __init__(self, data, around):
         self.data, self.around, self.listings = data, around, Listings(data)
+        pairs = {(it["number"], to) for it in data["states"] for edges in ("shifts", "gotos") for to in it[edges].values()}
+        if around == CONFLICTS:
+            self.only = to_conflicts(pairs, {it["state"] for it in data["conflicts"]})
+        else:
+            self.only = near(pairs, around) if isinstance(around, Near) else None
         self.red_shifts = {(it["state"], it["actions"][1].get("shift")) for it in data["conflicts"]}
 
     def edges(self):
@@ -80,10 +119,15 @@ class Drawn:
             edges = [(target, "color=red" * is_red) for target, is_red in reds]
             edges += [(target, "style=dashed") for target in state["gotos"].values()]
             for target, look in edges:
-                if self.around in (None, number, target):
+                if self.has_edge(number, target):
                     yield number, target, look
 
+    def has_edge(self, number, target):
+        return {number, target} <= self.only if self.only is not None else self.around in (None, number, target)
+
     def numbers(self):
+        if self.only is not None:
+            return sorted(self.only)
         if self.around is None:
             return [it["number"] for it in self.data["states"]]
         return sorted({self.around, *(it for edge in self.edges() for it in edge[:2])})

@@ -93,7 +93,10 @@ def first_run(prefix, of, is_wanted):
 
 FAULTY, LINE = first_run("", LRTAB, lambda lines, _: lines and lines[0].startswith("line "))
 PARSE, = first_run("", LRTAB, lambda lines, request: not lines and request.task == "parse")
-SHOWN, = first_run("shown_", LRSHOW, lambda lines, _: not lines)
+SHOWN, = first_run("shown_", LRSHOW, lambda lines, request: not lines and request.task == "json")
+# Runs on a text of standard input that is not UTF-8, and of `lrtab` with the same sign, which names no file.
+INPUT, _ = first_run("shown_", LRSHOW, lambda lines, request: lines == ["cannot read -"])
+SIGN, _ = first_run("", LRTAB, lambda lines, request: lines == ["cannot read -"])
 # Scripts, words, a status, and a part of what is printed.
 RUNS = (
     (PRINTS_X, CHAIN, 0, f"0 random runs and 2 deep ones: {NONE}"),
@@ -118,6 +121,14 @@ RUNS = (
     ("echo yes", f"--only {SHOWN}", 1, f"random run {SHOWN} by Canonical: no JSON"),
     (f'test "$LALRPOP_LANE_TABLE" = disabled && exit 9; {PRINTS_X}', CHAIN, 1,
      "0 random runs and 2 deep ones: 1 ended by a signal"),
+    ('echo "cannot read $1" >&2; exit 2', f"--only {INPUT}", 0, f"6 random runs and 0 deep ones: {NONE}"),
+    ('[ "$1" = g ] || cmp -s - g && echo "cannot read $1" >&2; exit 2', f"--only {INPUT}", 0, NONE),
+    ('[ "$1" = - ] && echo "cannot read -" >&2; exit 2', f"--only {INPUT}", 1,
+     "for standard input it answers otherwise than for the file"),
+    ('echo "cannot read $1" >&2; exit 2', f"--only {SIGN}", 0, f"2 random runs and 0 deep ones: {NONE}"),
+    ('[ "$1" = - ] && cat; exit 2', f"--only {SIGN}", 1, "expected status 2 and on standard error 'cannot read -'"),
+    ('[ "$1" = - ] && wc -l <&0 | grep -q 5000000 && echo "0 conflicts of 0 causes"',
+     "--only shown_empty_lines_of_standard_input", 0, NONE),
     ("exit 0", "--only nothing", 2, "no run is nothing; the deep ones are equal_lines, "),
     ("exit 0", "--show marked_chain", 0, "b'inline a15999\\n'"),
     ("exit 0", f"--show {PARSE}", 0, "words: b'g' "),

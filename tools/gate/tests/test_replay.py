@@ -65,14 +65,16 @@ def data_of(count, lookahead):
     actions = [{"reduce": it, "items": [{"production": it, "dot": 1, "examples": [EXAMPLE]}]} for it in numbers]
     first, last = ([{"production": it, "dot": dot, "lookahead": lookahead} for it in numbers] for dot in (0, 1))
     reductions = [{"production": it, "lookahead": [None]} for it in numbers]
+    conflicts = [{"state": 1, "lookahead": [None], "actions": it} for it in itertools.combinations(actions, 2)]
     return json.dumps({
-        "format": "lrshow", "version": 1, "start": "S", "terminals": ["x"],
+        "format": "lrshow", "version": 2, "start": "S", "terminals": ["x"],
         "productions": [{"number": it, "nonterminal": "S", "symbols": [{"terminal": "x"}]} for it in numbers],
         "states": [
             {"number": 0, "items": first, "shifts": {"x": 1}, "gotos": {}, "reductions": []},
             {"number": 1, "items": last, "shifts": {}, "gotos": {}, "reductions": reductions},
         ],
-        "conflicts": [{"state": 1, "lookahead": [None], "actions": it} for it in itertools.combinations(actions, 2)],
+        "conflicts": conflicts,
+        "causes": [{"conflicts": [it], "search": "cut", "derivations": []} for it in range(len(conflicts))],
     })
 
 
@@ -91,7 +93,7 @@ def by_lrtab(old="", new=""):
 
 def by_lrshow(command, old="", new="", name="x.lanes"):
     files = {"program": LRSHOW}
-    for method, lookahead in (("lanes", ["x", None]), ("disabled", [None])):
+    for method, lookahead in (("lanes", None), ("disabled", [None])):
         files[f"program.x.{method}"] = f"0\n\n{data_of(1, lookahead)}"
         files[f"program.y.{method}"] = f"1\n\n{data_of(3, lookahead)}"
         files[f"program.z.{method}"] = f"2\n{FAULT}"
@@ -115,15 +117,19 @@ class Replay(CommandTest):
 
     def test_parses(self):
         """Right data, data that parse otherwise, texts that are no data, and other results."""
-        data, three = data_of(1, ["x", None]), data_of(3, ["x", None])
+        data, three = data_of(1, None), data_of(3, None)
         no_shift = """x/S parse 2 x/Lane: stdout, line 1: expected '[S: "x"]', got 'refused at "x"'"""
         no_limit = "x/S parse 1 x/Lane: stdout, line 1: expected 'limit', got ''"
-        third = three[three.rindex(', {"state"') : -2]
+        # (the third conflict and all after it, and the same without that conflict and its cause)
+        third = three[three.rindex(', {"state"') :]
+        alone = third[third.index('], "causes"') :]
+        two = alone[: alone.rindex(', {"conflicts"')] + "]}"
         self.check(lambda *change: by_lrshow(by_data, *change), (
             ("right data", 0, "parse by the data of 6 tables: 10 agree, 0 differ"),
             ("a dropped shift", 1, no_shift, '{"x": 1}', "{}"),
             ("a reduction on another token", 1, "refused at Eof", "[null]", '["x"]'),
-            ("one conflict fewer", 1, "expected 'conflicts: 3', got 'conflicts: 2'", third, "", "y.lanes"),
+            ("one conflict fewer", 1, "expected 'conflicts: 3', got 'conflicts: 2'", third, two, "y.lanes"),
+            ("a conflict without a cause", 1, "causes of the conflicts", third, alone, "y.lanes"),
             ("broken JSON", 1, "x/S parse 1 x/Lane: no JSON: ", data, data[:-1]),
             ("a quote too many", 1, "no JSON: ", '"x"', '"x""'),
             ("a control character", 1, "no JSON: ", '"x"', '"\x01"'),
@@ -137,11 +143,11 @@ class Replay(CommandTest):
 
     def test_listings(self):
         """Right data, data that refer to nothing, and data that list something else."""
-        items, reductions = '1, "lookahead": ["x", null]', '[{"production": 0, "lookahead": [null]}]'
-        canonical, lane, example = data_of(1, [None]), data_of(1, ["x", None]), json.dumps(EXAMPLE)
+        items, reductions = '1, "lookahead": null', '[{"production": 0, "lookahead": [null]}]'
+        canonical, lane, example = data_of(1, [None]), data_of(1, None), json.dumps(EXAMPLE)
         self.check(lambda *change: by_lrshow(report_of_data, *change), (
             ("right data", 0, "report and explain by the data of 6 tables: 8 agree, 0 differ"),
-            ("another version", 1, "another format", '"version": 1', '"version": 2'),
+            ("another version", 1, "another format", '"version": 2', '"version": 1'),
             ("a member more", 1, "the whole has other members", '"version"', '"more": 2, "version"'),
             ("a member twice", 1, "a member stands twice", '"version"', '"start": 1, "version"'),
             ("a number that is none", 1, "NaN is no JSON", '"number": 1', '"number": NaN'),
@@ -169,5 +175,5 @@ class Replay(CommandTest):
         for limit, status, text in (("2", 0, '[S: "x"]\n'), ("1", 1, "limit\n")):
             with self.subTest(limit):
                 words = [sys.executable, f"{ROOT}/examples/parse_by_tables.py", limit, "x"]
-                ran = subprocess.run(words, input=data_of(1, ["x", None]), capture_output=True, encoding="utf-8")
+                ran = subprocess.run(words, input=data_of(1, None), capture_output=True, encoding="utf-8")
                 self.assertEqual((status, text), (ran.returncode, ran.stdout), ran.stderr)

@@ -10,16 +10,18 @@ from gate.shown.listings import LINE, Listings
 def data_of(count):
     """The data of so many equal productions `S = "x"`, each two of which are in conflict."""
     def state(number, shifts, reductions):
-        items = [{"production": it, "dot": number, "lookahead": ["x", None]} for it in range(count)]
+        items = [{"production": it, "dot": number, "lookahead": None} for it in range(count)]
         return {"number": number, "items": items, "shifts": shifts, "gotos": {}, "reductions": reductions}
 
     reductions = [{"production": it, "lookahead": [None]} for it in range(count)]
     actions = [{"reduce": it, "items": [{"production": it, "dot": 1, "examples": []}]} for it in range(count)]
+    conflicts = [{"state": 1, "lookahead": [None], "actions": it} for it in itertools.combinations(actions, 2)]
+    witness = {"search": "found", "derivations": ['[S: "x"]', '[S: "x"]']}
     it = {
-        "format": "lrshow", "version": 1, "start": "S", "terminals": ["x"],
+        "format": "lrshow", "version": 2, "start": "S", "terminals": ["x"],
         "productions": [{"number": it, "nonterminal": "S", "symbols": [{"terminal": "x"}]} for it in range(count)],
         "states": [state(0, {"x": 1}, []), state(1, {}, reductions)],
-        "conflicts": [{"state": 1, "lookahead": [None], "actions": it} for it in itertools.combinations(actions, 2)],
+        "conflicts": conflicts, "causes": [{"conflicts": [it], **witness} for it in range(len(conflicts))],
     }
     return json.dumps(it, separators=(",", ":")) + "\n"
 
@@ -28,13 +30,14 @@ DATA, TWICE = data_of(1), data_of(2)
 # The data of `S = A "x"`, `S = "x"`, `A =`, in one state, whose conflict has an example.
 EXAMPLE = '{"symbols":[null,{"terminal":"x"}],"place":1,"reductions":[{"start":0,"end":1,"nonterminal":"A"}]}'
 SHIFTED = (
-    '{"format":"lrshow","version":1,"start":"S","terminals":["x"],"productions":[{"number":2,"nonterminal":"A",'
+    '{"format":"lrshow","version":2,"start":"S","terminals":["x"],"productions":[{"number":2,"nonterminal":"A",'
     '"symbols":[]},{"number":0,"nonterminal":"S","symbols":[{"nonterminal":"A"},{"terminal":"x"}]},{"number":1,'
     '"nonterminal":"S","symbols":[{"terminal":"x"}]}],"states":[{"number":0,"items":[{"production":2,"dot":0,'
     '"lookahead":["x"]},{"production":1,"dot":0,"lookahead":[null]}],"shifts":{"x":0},"gotos":{},"reductions":'
     '[{"production":2,"lookahead":["x"]}]}],"conflicts":[{"state":0,"lookahead":["x"],"actions":[{"reduce":2,"items":'
     f'[{{"production":2,"dot":0,"examples":[{EXAMPLE}]}}]}},'
-    '{"shift":"x","state":0,"items":[{"production":1,"dot":0,"examples":[]}]}]}]}'
+    '{"shift":"x","state":0,"items":[{"production":1,"dot":0,"examples":[]}]}]}],'
+    '"causes":[{"conflicts":[0],"search":"exhausted","derivations":[]}]}'
 )
 HEAD = f"Lalrpop Report File\n{'=' * 40}\n\nSummary\n{LINE}\n\n"
 BEGUN, ENDED = (f'\n    S -> {it}\n        lookahead "x" Eof\n' for it in ('. "x"', '"x" .'))
@@ -58,11 +61,12 @@ EXPLAINED = 'conflict 1 in state 0 on "x"\n  reduce A ->\n    (*) "x"\n  shift "
 # A part of data, what is put in its place, and a part of the reason.
 SPOILT_DATA = (
     *((DATA, *it) for it in (
-        ('["x",null]}],"shifts":{"x"', '[null,"x"]}],"shifts":{"x"', "tokens [None, 'x']"),
+        ('null}],"shifts":{"x"', '[null,"x"]}],"shifts":{"x"', "tokens [None, 'x']"),
+        ('null}],"shifts":{"x"', '["x",null]}],"shifts":{"x"', "state 0: an item lists all tokens"),
         ('{"number":0,"nonterminal":"S"', '{"number":1,"nonterminal":"S"', "no production 0"),
-        ('"version":1', '"version":1,"version":1', "a member stands twice"), ("[]}\n", "[]", "no JSON"),
-        ('"version":1', '"version":NaN', "NaN is no JSON"), ('"version":1', '"version":2', "another format, version"),
-        ('"version":1,', "", "the whole has other members than format version"),
+        ('"version":2', '"version":2,"version":2', "a member stands twice"), ("[]}\n", "[]", "no JSON"),
+        ('"version":2', '"version":NaN', "NaN is no JSON"), ('"version":2', '"version":1', "another format, version"),
+        ('"version":2,', "", "the whole has other members than format version"),
         ('"terminals":["x"]', '"terminals":["x","a"]', "terminals twice, or in another order"),
         ('{"terminal":"x"}', '{"terminal":"y"}', "production 0: unknown symbol 'y'"),
         ('"symbols":[', '"more":0,"symbols":[', "a production has other members"),
@@ -76,6 +80,10 @@ SPOILT_DATA = (
         ('{"state":1', '{"state":2', "conflict 0: no state 2"), ('{"reduce":0,', '{"reduce":2,', "no reduction by 2"),
         ('{"state":1,"lookahead":[null]', '{"state":1,"lookahead":[]', "conflict 0: tokens [], 2 actions"),
         ('"dot":1,"examples"', '"dot":0,"examples"', "other items than the finished one"),
+        ('"conflicts":[0]', '"conflicts":[]', "causes of the conflicts [[]]"),
+        ('"conflicts":[0],', '"conflicts":[0],"more":0,', "a cause has other members"),
+        ('"found"', '"lost"', "a search ended as 'lost'"), ('"found"', '"cut"', "2 derivations of a search cut"),
+        ('[S: \\"x\\"]', '[S: \\"y\\"]', "no witness"), ('[S: \\"x\\"]', '[S: \\"x\\"', "no witness"),
     )),
     *((SHIFTED, *it) for it in (
         ('"nonterminal":"A","symbols"', '"nonterminal":"T","symbols"', "productions in another order"),
@@ -127,7 +135,7 @@ SPOILT_PAGES = (
     ('"x"', '"y"', "unknown symbol"), ("<p>", '<p onclick="x">', "p has ['onclick']"),
     ("<p>", "<script>alert(1)</script><p>", "the page has [('style', {}), ('script', {}), ('script'"),
     ("<p>", '<img src="http://a"><p>', "the page has elements ['img']"),
-    ("'none'", "'self'", "the page may load"), ('"conflicts":[]}', '"conflicts":[]', "no JSON"),
+    ("'none'", "'self'", "the page may load"), ('"causes":[]}', '"causes":[]', "no JSON"),
     ('"production":0,"dot":1', '"production":0,"dot":0', "the page holds other data"),
 )
 
@@ -145,7 +153,10 @@ class Readers(unittest.TestCase):
 
     def test_data(self):
         for text in (DATA, TWICE, SHIFTED):
-            self.assertEqual(data.read(text.encode()), json.loads(text))
+            # (where an item has all tokens, they are listed)
+            listed = text.replace('"lookahead":null', '"lookahead":["x",null]')
+            self.assertEqual(data.read(text.encode()), json.loads(listed))
+        self.assertEqual((DATA.count('"lookahead":null'), TWICE.count('"lookahead":null')), (2, 4))
         for text, old, new, reason in SPOILT_DATA:
             self.refuse(reason, data.read, text.replace(old, new, 1).encode())
 
@@ -155,26 +166,58 @@ class Readers(unittest.TestCase):
             (SHIFTED, SHIFTED_REPORT, EXPLAINED),
             (TWICE, TWICE_REPORT, "conflict 1 in state 1 on Eof\n" + 2 * '  reduce S -> "x"\n'),
         ):
-            listings = Listings(json.loads(text))
+            listings = Listings(data.read(text.encode()))
             self.assertEqual(listings.report(), report)
             self.assertEqual(listings.explanation(), explained)
 
     def test_graphs(self):
-        graph.check(TWICE_DRAWN, json.loads(TWICE), None)
+        graph.check(TWICE_DRAWN, data.read(TWICE.encode()), None)
         for drawn, around in ((GRAPH, None), (ACROSS, 0), (ACROSS, 1)):
-            graph.check(drawn, json.loads(DATA), around)
+            graph.check(drawn, data.read(DATA.encode()), around)
         for drawn, old, new, reason in SPOILT_GRAPHS:
             around, text = 0 if drawn == ACROSS else None, drawn.replace(old, new, 1)
-            self.refuse(reason, graph.check, text, json.loads(DATA), around)
+            self.refuse(reason, graph.check, text, data.read(DATA.encode()), around)
         many = GRAPH.replace("  0 -> 1;\n", 201 * "  0 -> 1;\n")
         _, edges = graph.read(many.replace("  0 [", f"{graph.LARGE}  0 [", 1), None)
         self.assertEqual(edges, 201 * [(0, 1, "")])
         self.refuse("another layout for 201 edges", graph.read, many, None)
         self.assertEqual(graph.few(["x"] * 10), ' "x"' * 8 + " and 2 more")
 
+    def test_states_near_one(self):
+        edges = {(0, 1), (1, 2), (2, 3), (4, 2), (3, 3), (5, 6)}
+        for number, depth, expected in (
+            (2, 0, {2}), (2, 1, {1, 2, 3, 4}), (2, 2, {0, 1, 2, 3, 4}), (2, 9, {0, 1, 2, 3, 4}), (0, 2, {0, 1, 2}),
+            (5, 1, {5, 6}), (3, 1, {2, 3}), (7, 3, {7}),
+        ):
+            self.assertEqual(graph.near(edges, graph.Near(number, depth)), expected)
+
+    def test_states_to_conflicts(self):
+        # (two shortest paths to 3, one longer path, and a state that none leads to)
+        edges = {(0, 1), (0, 2), (1, 3), (2, 3), (0, 4), (4, 5), (5, 3), (3, 6), (7, 6), (6, 0)}
+        for ends, expected in (
+            (set(), set()), ({0}, {0}), ({3}, {0, 1, 2, 3}), ({6}, {0, 1, 2, 3, 6}), ({5, 1}, {0, 1, 4, 5}), ({7}, set()),
+        ):
+            self.assertEqual(graph.to_conflicts(edges, ends), expected)
+
+    def test_parts_of_graphs(self):
+        """What is shown near a state or to conflicts has all edges between its states."""
+        conflict = {"state": 2, "actions": [{}, {"shift": "x"}]}
+        whole = {"start": "S", "terminals": ["x"], "productions": [], "conflicts": [conflict]}
+        whole["states"] = [
+            {"number": it, "items": [], "reductions": [], "shifts": {"x": to} if to is not None else {}, "gotos": gotos}
+            for it, (to, gotos) in enumerate(((1, {"A": 2}), (2, {}), (None, {"A": 0, "B": 3}), (None, {})))]
+        for around, numbers, edges in (
+            (graph.CONFLICTS, [0, 2], [(0, 2, "style=dashed"), (2, 0, "style=dashed")]),
+            (graph.Near(1, 0), [1], []), (graph.Near(3, 2), [0, 1, 2, 3], 5), (1, [0, 1, 2], [(0, 1, ""), (1, 2, "")]),
+        ):
+            drawn = graph.Drawn(whole, around)
+            self.assertEqual(drawn.numbers(), numbers)
+            found = [*drawn.edges()]
+            self.assertEqual(len(found) if isinstance(edges, int) else found, edges)
+
     def test_pages(self):
-        page.check(page_of(DATA), json.loads(DATA))
+        page.check(page_of(DATA), data.read(DATA.encode()))
         for old, new, reason in SPOILT_PAGES:
-            self.refuse(reason, page.check, page_of(DATA).replace(old, new, 1), json.loads(DATA))
+            self.refuse(reason, page.check, page_of(DATA).replace(old, new, 1), data.read(DATA.encode()))
         # (an element in the text of the data)
         self.refuse("the data have a sign", page.held, PAGE.replace("{}", "<b>", 1))
