@@ -12,7 +12,7 @@ pub use Rattle.lalrpop_grammar.specs.closures.Closures.{AreCanonical, AreChecked
 pub use Rattle.lalrpop_grammar.specs.closures.Closures.{IsMovedWith, IsReached, KernelsDiffer, TokenKernelsDiffer, at_zero, begins_rest, eof_at_start, expanded}
 pub use Rattle.lalrpop_grammar.specs.closures.Closures.{first_of_rest, in_kernel, inherits, items_of, over, through_rest, with_token}
 pub use Rattle.lalrpop_grammar.specs.collapse.Collapse.{HoldsInGroup, IsCollapse, LeadsInGroup}
-pub use Rattle.lalrpop_states.specs.collapse.Collapsible.{AreAlike, AreCollapsible, IsAlikeTo, LeadAlike, dots, dots_at, dots_of}
+pub use Rattle.lalrpop_states.specs.collapse.Collapsible.{AreAlike, AreCollapsible, IsAlikeTo, LeadAlike, dots_at, dots_of}
 pub use Rattle.lalrpop_states.specs.collapse.Merging.{AreFirstNumbers, AreJoinedReductions, AreTokensOf, HasReduction, HasReductionOn, HasTokensOf, IsJoined}
 pub use Rattle.lalrpop_states.specs.collapse.Merging.{IsPlacedAt, IsReduced, Places, bare, joined, joined_at, joined_item, joined_items, pushed}
 pub use Rattle.lalrpop_states.specs.conflicts.AllConflicts.{AreAllConflicts, FailWith}
@@ -88,13 +88,13 @@ pub use Rattle.lalrpop_states.specs.states.CheckStates.{AreRightStates, IsRightI
 pub use Rattle.lalrpop_states.specs.states.CheckStates.{finished}
 pub use Rattle.lalrpop_states.specs.states.Coherent.{AreCoherent, AreFinished, HasItem, IsAt, IsCoherentEdge, IsCoherentState, IsCoherentStep, IsShiftedFrom, StartsAtZero}
 pub use Rattle.lalrpop_states.specs.states.Coherent.{symbol_of_ref}
-pub use Rattle.lalrpop_states.specs.states.Contents.{contents, contents_at, contents_in, contents_of, dotted_of, has_at, holds_token, no_contents, number_of}
+pub use Rattle.lalrpop_states.specs.states.Contents.{contents, contents_at, contents_in, contents_of, has_at, holds_token, no_contents, number_of}
 pub use Rattle.lalrpop_states.specs.states.Contents.{reduced_productions, reduction_of}
 pub use Rattle.lalrpop_grammar.specs.states.Copies.{IsCopying}
 pub use Rattle.lalrpop_states.specs.states.Edges.{StateEdge, goto_edge, seen_edge, shift_edge, state_edges}
-pub use Rattle.lalrpop_states.specs.states.Items.{Dotted, dotted_exact, with_dot}
+pub use Rattle.lalrpop_states.specs.states.Items.{Dotted, dots, dotted_exact, dotted_of, with_dot}
 pub use Rattle.lalrpop_collections.specs.states.Kernels.{AddsOnce, IsNumbering, Kernels, by_number, key_numbered, keys_below}
 pub use Rattle.lalrpop_grammar.specs.states.States.{Allows, AreFaithful, CanStandNext, Contents, HasNoRepeat, HasRightItems, HaveRightItems, IsBehindDot, IsRightFor}
 pub use Rattle.lalrpop_grammar.specs.states.States.{LeadsOverDots, ReducesFinished, leads, onward, state_after, state_from}
 pub use Rattle.lalrpop_states.specs.states.ViewFolds.{longer_of, longest_from, shorter_of, shortest_from}
-pub use Rattle.lalrpop_states.specs.states.Views.{AreAll, IsFirstShortest, IsFirstShortestOrEmpty, IsLastLongest, has_moved, moved, name_of, prefix_of, rest_of}
+pub use Rattle.lalrpop_states.specs.states.Views.{AreAll, IsFirstShortest, IsFirstShortestOrEmpty, IsLastLongest, has_moved, moved, nonterminal_of, prefix_of, rest_of}

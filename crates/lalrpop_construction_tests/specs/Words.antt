@@ -7,17 +7,17 @@ use Rattle.std.proofs.lemmas.Nat.Bits.{bit_at_or, bit_at-lt, bit_at_above, same_
 use Rattle.lalrpop_base.specs.Words.{Bits, has, no_bits, with_bit, join, same_bits, has-no_bits, has-with_bit, has-join}
 
 -- whether a word has the bit
-abbrev pub has_bit : ℕ → ℕ → Bool
-has_bit word bit = bit_at word bit == 1
+abbrev pub word_has_bit : ℕ → ℕ → Bool
+word_has_bit word bit = bit_at word bit == 1
 
 -- whether the bit is one of the 64, and a word has it
 abbrev pub holds_bit : ℕ → ℕ → Bool
-holds_bit word bit = nat_lt bit 64 && has_bit word bit
+holds_bit word bit = nat_lt bit 64 && word_has_bit word bit
 
 -- the set of the bits of a word that are less than a bound
 abbrev pub bits_below : ℕ → ℕ → Bits
 bits_below zero word = no_bits
-bits_below (suc bit) word = cond (has_bit word bit) (with_bit (bits_below bit word) bit) (bits_below bit word)
+bits_below (suc bit) word = cond (word_has_bit word bit) (with_bit (bits_below bit word) bit) (bits_below bit word)
 
 -- the set of the bits of a word, each of which is less than the word
 pub bits_of_word : ℕ → Bits
@@ -43,27 +43,27 @@ not_more bit bound t absent =
     (cases_lt bit (suc bound)))
     (cases_lt bit bound)
 
-has-bits_below : (bound word bit : ℕ) → has (bits_below bound word) bit ≡ (nat_lt bit bound && has_bit word bit)
-has-bits_below zero word bit = has-no_bits bit ∙ ap (λ t. t && has_bit word bit) (sym (le-ltb bit 0 (omega arith)))
+has-bits_below : (bound word bit : ℕ) → has (bits_below bound word) bit ≡ (nat_lt bit bound && word_has_bit word bit)
+has-bits_below zero word bit = has-no_bits bit ∙ ap (λ t. t && word_has_bit word bit) (sym (le-ltb bit 0 (omega arith)))
 has-bits_below (suc bound) word bit =
     ⊎_elim
     (λ there. ap (λ t. has (cond t (with_bit (bits_below bound word) bound) (bits_below bound word)) bit) there ∙ has-with_bit (bits_below bound word) bound bit
-    ∙ ap (λ t. (bit == bound) || t) (has-bits_below bound word bit) ∙ one_more bit bound (λ b. has_bit word b) there)
-    (λ absent. ap (λ t. has (cond t (with_bit (bits_below bound word) bound) (bits_below bound word)) bit) absent ∙ has-bits_below bound word bit ∙ not_more bit bound (λ b. has_bit word b) absent)
-    (cases_Bool (has_bit word bound))
+    ∙ ap (λ t. (bit == bound) || t) (has-bits_below bound word bit) ∙ one_more bit bound (λ b. word_has_bit word b) there)
+    (λ absent. ap (λ t. has (cond t (with_bit (bits_below bound word) bound) (bits_below bound word)) bit) absent ∙ has-bits_below bound word bit ∙ not_more bit bound (λ b. word_has_bit word b) absent)
+    (cases_Bool (word_has_bit word bound))
 
 lt_pow : (n : ℕ) → n < 2 ^ n
 lt_pow zero = omega arith
 lt_pow (suc n) = omega (arith, lt_pow n, pow-suc 2 n)
 
 -- the set of a word has a bit exactly if the word has it
-pub has-bits_of_word : (word bit : ℕ) → has (bits_of_word word) bit ≡ has_bit word bit
+pub has-bits_of_word : (word bit : ℕ) → has (bits_of_word word) bit ≡ word_has_bit word bit
 unfolding bits_of_word
 has-bits_of_word word bit =
     has-bits_below word word bit
     ∙ ⊎_elim
-    (λ less. ap (λ t. t && has_bit word bit) (lt-ltb bit word less))
-    (λ most. ap (λ t. t && has_bit word bit) (le-ltb bit word most) ∙ sym (ap (λ n. n == 1) (bit_at_above word bit bit (omega (arith, lt_pow bit)) (omega arith))))
+    (λ less. ap (λ t. t && word_has_bit word bit) (lt-ltb bit word less))
+    (λ most. ap (λ t. t && word_has_bit word bit) (le-ltb bit word most) ∙ sym (ap (λ n. n == 1) (bit_at_above word bit bit (omega (arith, lt_pow bit)) (omega arith))))
     (cases_lt bit word)
 
 one_bit : (x y : ℕ) → x < 2 → y < 2 → (x == 1) ≡ (y == 1) → x ≡ y
@@ -76,7 +76,7 @@ one_bit x (suc (suc y)) l m e = absurd (omega arith)
 
 -- words with equal sets are equal
 pub same_word : (a b : ℕ) → bits_of_word a ≡ bits_of_word b → a ≡ b
-same_word a b same = same_from_bits a b (λ bit. let tests : has_bit a bit ≡ has_bit b bit = sym (has-bits_of_word a bit) ∙ ap (λ s. has s bit) same ∙ has-bits_of_word b bit in one_bit (bit_at a bit) (bit_at b bit) (bit_at-lt a bit) (bit_at-lt b bit) tests)
+same_word a b same = same_from_bits a b (λ bit. let tests : word_has_bit a bit ≡ word_has_bit b bit = sym (has-bits_of_word a bit) ∙ ap (λ s. has s bit) same ∙ has-bits_of_word b bit in one_bit (bit_at a bit) (bit_at b bit) (bit_at-lt a bit) (bit_at-lt b bit) tests)
 
 -- the set of the word 0 is empty
 pub word-zero : bits_of_word 0 ≡ no_bits
@@ -95,4 +95,4 @@ or_test x (suc (suc y)) l m = absurd (omega arith)
 pub word-or : (a b : ℕ) → bits_of_word (bit_or a b) ≡ join (bits_of_word a) (bits_of_word b)
 word-or a b =
     same_bits _ _ (λ bit. has-bits_of_word (bit_or a b) bit ∙ ap (λ n. n == 1) (bit_at_or a b bit) ∙ or_test (bit_at a bit) (bit_at b bit) (bit_at-lt a bit) (bit_at-lt b bit)
-    ∙ sym (has-join (bits_of_word a) (bits_of_word b) bit ∙ ap (λ t. t || has (bits_of_word b) bit) (has-bits_of_word a bit) ∙ ap (λ t. has_bit a bit || t) (has-bits_of_word b bit)))
+    ∙ sym (has-join (bits_of_word a) (bits_of_word b) bit ∙ ap (λ t. t || has (bits_of_word b) bit) (has-bits_of_word a bit) ∙ ap (λ t. word_has_bit a bit || t) (has-bits_of_word b bit)))

@@ -37,9 +37,9 @@ pub use Rattle.lalrpop_lr1.specs.runs.ParseAnswers.{HadTables, HadTablesWhere, I
 pub use Rattle.lalrpop_parser.specs.runs.Reading.{HasPartialOutcome, PartialOutcome, Reads, Stack, Stop, StopsReading, all_read, before, cut_off, early_end, stopped}
 pub use Rattle.lalrpop_parser.specs.runs.Reading.{stuck}
 pub use Rattle.lalrpop_parser.specs.runs.Steps.{HasOutcomeFrom, IsParsedIn, cut_off_from, other_end_from, parsed_from, stuck_from}
-pub use Rattle.lalrpop_traces.specs.traces.ExampleTexts.{after_mark, before_mark, marked_text}
+pub use Rattle.lalrpop_traces.specs.traces.ExampleTexts.{after_mark, before_mark, example_text}
 pub use Rattle.lalrpop_traces.specs.traces.Examples.{CarryRightSides, IsExampleOf, IsRightSide, ReduceAll, ReduceAround, SpellsDerivation, between, cursor_list}
-pub use Rattle.lalrpop_traces.specs.traces.Examples.{edge_cursor, edge_of, following, nonterminal_of_node, path_of, place, place_of, edge_prefix, prefixes, example_reductions, reduced_at, spelled}
+pub use Rattle.lalrpop_traces.specs.traces.Examples.{edge_cursor, edge_of, following, nonterminal_of_node, path_of, example_place, place_of, edge_prefix, prefixes, example_reductions, reduced_at, spelled}
 pub use Rattle.lalrpop_traces.specs.traces.Examples.{edge_suffix, suffixes}
 pub use Rattle.lalrpop_traces.specs.traces.Meetings.{AddsInOrder, AreMet, AreNamed, HasMet, IsInsertedPair, IsStep, WalksOn, asked, duties_left, duties_of}
 pub use Rattle.lalrpop_traces.specs.traces.Meetings.{duty_steps, item_steps, meeting_cmp, meetings, names_in, unmet, work}

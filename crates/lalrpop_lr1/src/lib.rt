@@ -17,7 +17,7 @@ pub use headline::any_start::{AugmentedGrammar, parse_from_any};
 pub use headline::by_tables::parse_by_tables;
 pub use headline::{ParseError, parse};
 pub use lalrpop_ambiguity::derivation::Derivation;
-pub use lalrpop_ambiguity::search::{Search, find_ambiguity};
+pub use lalrpop_ambiguity::search::{AmbiguityFinder, Search, find_ambiguity};
 pub use lalrpop_ambiguity::witness::{Ambiguity, is_witness};
 pub use lalrpop_ambiguity::{derivation, search, witness};
 pub use lalrpop_explain::explain;

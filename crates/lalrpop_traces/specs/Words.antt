@@ -1,7 +1,7 @@
 -- The words of this crate's contracts, by name: where each is defined.
-pub use Rattle.lalrpop_traces.specs.traces.ExampleTexts.{after_mark, before_mark, marked_text}
+pub use Rattle.lalrpop_traces.specs.traces.ExampleTexts.{after_mark, before_mark, example_text}
 pub use Rattle.lalrpop_traces.specs.traces.Examples.{CarryRightSides, IsExampleOf, IsRightSide, ReduceAll, ReduceAround, SpellsDerivation, between, cursor_list}
-pub use Rattle.lalrpop_traces.specs.traces.Examples.{edge_cursor, edge_of, following, nonterminal_of_node, path_of, place, place_of, edge_prefix, prefixes, example_reductions, reduced_at, spelled}
+pub use Rattle.lalrpop_traces.specs.traces.Examples.{edge_cursor, edge_of, following, nonterminal_of_node, path_of, example_place, place_of, edge_prefix, prefixes, example_reductions, reduced_at, spelled}
 pub use Rattle.lalrpop_traces.specs.traces.Examples.{edge_suffix, suffixes}
 pub use Rattle.lalrpop_traces.specs.traces.Meetings.{AddsInOrder, AreMet, AreNamed, HasMet, IsInsertedPair, IsStep, WalksOn, asked, duties_left, duties_of}
 pub use Rattle.lalrpop_traces.specs.traces.Meetings.{duty_steps, item_steps, meeting_cmp, meetings, names_in, unmet, work}

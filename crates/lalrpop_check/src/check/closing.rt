@@ -2,7 +2,7 @@
 ghost use Rattle.std.specs.Prelude.{◌≡◌, [], ◌∷◌, IfOk, OnOk, Contains, map};
 ghost use Rattle.lalrpop_base.specs.Words.{IsAtStart, IsWellFormed, productions, productions_of, AllWait, Visits, IsOneAtStart, IsExpansionOf, IsMovedIn, IsMovedOf};
 ghost use Rattle.lalrpop_base.specs.Words.{AreClosure};
-ghost use Rattle.lalrpop_states.specs.closures.Closure.{dotted_of};
+ghost use Rattle.lalrpop_states.specs.states.Items.{dotted_of};
 
 use lalrpop_base::collections::walk::Walk;
 use lalrpop_base::lookahead::nil::Nil;

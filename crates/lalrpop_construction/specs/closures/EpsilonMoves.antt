@@ -8,12 +8,11 @@ use Rattle.lalrpop_collections.specs.lists.Bits.{Bits}
 use Rattle.lalrpop_collections.specs.lists.Entries.{IsJoinedAt}
 use Rattle.lalrpop_collections.specs.lists.Places.{AllDiffer}
 use Rattle.lalrpop_states.specs.states.Contents.{holds_token}
-use Rattle.lalrpop_states.specs.states.Items.{Dotted}
+use Rattle.lalrpop_states.specs.states.Items.{Dotted, dotted_of}
 use Rattle.lalrpop_grammar.specs.declared.lookahead.token.Token.{Token}
 use Rattle.lalrpop_grammar.specs.declared.repr.NonterminalString.{NonterminalString}
 use Rattle.lalrpop_grammar.specs.declared.repr.Production.{Production}
 use Rattle.lalrpop_grammar.specs.declared.repr.Symbol.{Symbol}
-use Rattle.lalrpop_states.specs.closures.Closure.{dotted_of}
 
 -- the item has a production of the nonterminal, the dot at the start, and the lookahead
 pub record IsItemAtStart {L : Type 0} (g : Rules) (name : NonterminalString) (lookahead : L) (i : Dotted L) : Type 0 where

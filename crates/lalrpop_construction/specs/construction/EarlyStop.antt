@@ -8,7 +8,7 @@ use Rattle.lalrpop_grammar.specs.grammars.WellFormed.{Rules}
 use Rattle.lalrpop_collections.specs.lists.Bits.{Bits, no_bits}
 use Rattle.lalrpop_collections.specs.lists.Places.{AllDiffer}
 use Rattle.lalrpop_grammar.specs.parsing.Validity.{IsLive, Valid, ValidToken}
-use Rattle.lalrpop_states.specs.states.Items.{Dotted}
+use Rattle.lalrpop_states.specs.states.Items.{Dotted, dotted_of}
 use Rattle.lalrpop_states.specs.declared.lookahead.nil.Nil.{Nil}
 use Rattle.lalrpop_grammar.specs.declared.lookahead.token.Token.{Token}
 use Rattle.lalrpop_states.specs.declared.lr1_core.state.BuildError.{BuildError}
@@ -19,7 +19,7 @@ use Rattle.lalrpop_grammar.specs.declared.repr.Production.{Production}
 use Rattle.lalrpop_grammar.specs.declared.repr.Symbol.{Symbol}
 use Rattle.lalrpop_grammar.specs.declared.repr.TerminalString.{TerminalString}
 use Rattle.lalrpop_construction.specs.states.Canonical.{AreCanonicalStates}
-use Rattle.lalrpop_states.specs.closures.Closure.{dotted_of, HasItemToken, IsClosureOf, IsClosureBy}
+use Rattle.lalrpop_states.specs.closures.Closure.{HasItemToken, IsClosureOf, IsClosureBy}
 use Rattle.lalrpop_construction.specs.states.Lr0.{AreLr0States}
 use Rattle.lalrpop_states.specs.conflicts.AllConflicts.{AreAllConflicts, ListsAll}
 use Rattle.lalrpop_construction.specs.construction.Results.{Settings}

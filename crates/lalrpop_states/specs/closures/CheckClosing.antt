@@ -4,13 +4,12 @@ use Rattle.std.specs.Prelude.{◌≡◌, ◌↔◌, ◌<◌, ℕ, List, map, sli
 use Rattle.lalrpop_grammar.specs.closures.Closures.{InClosure}
 use Rattle.lalrpop_grammar.specs.grammars.WellFormed.{productions, productions_of}
 use Rattle.lalrpop_collections.specs.lists.Bits.{Bits}
-use Rattle.lalrpop_states.specs.states.Items.{Dotted}
+use Rattle.lalrpop_states.specs.states.Items.{Dotted, dotted_of}
 use Rattle.lalrpop_states.specs.declared.lookahead.nil.Nil.{Nil}
 use Rattle.lalrpop_grammar.specs.declared.repr.NonterminalString.{NonterminalString}
 use Rattle.lalrpop_grammar.specs.declared.repr.Production.{Production}
 use Rattle.lalrpop_grammar.specs.declared.repr.Symbol.TheVariants.{Nonterminal}
 use Rattle.lalrpop_grammar.specs.declared.repr.grammar.Grammar.{Grammar}
-use Rattle.lalrpop_states.specs.closures.Closure.{dotted_of}
 
 -- the item has one of the productions, with the dot at the start
 pub record IsOneAtStart (ps : List Production) (k : Dotted Nil) : Type 0 where

@@ -5,7 +5,7 @@ use Rattle.lalrpop_grammar.specs.grammars.Grammar.{IsFirst}
 use Rattle.lalrpop_grammar.specs.grammars.WellFormed.{Rules, productions, productions_of}
 use Rattle.lalrpop_collections.specs.lists.Bits.{Bits}
 use Rattle.lalrpop_states.specs.states.Contents.{holds_token}
-use Rattle.lalrpop_states.specs.states.Items.{Dotted}
+use Rattle.lalrpop_states.specs.states.Items.{Dotted, dotted_of}
 use Rattle.lalrpop_states.specs.declared.lookahead.nil.Nil.{Nil}
 use Rattle.lalrpop_grammar.specs.declared.lookahead.token.Token.{Token}
 use Rattle.lalrpop_grammar.specs.declared.lookahead.token.Token.TheVariants.{Eof, Error, Terminal as TokenOf}
@@ -13,7 +13,7 @@ use Rattle.lalrpop_grammar.specs.declared.repr.Production.{Production}
 use Rattle.lalrpop_grammar.specs.declared.repr.grammar.Grammar.{Grammar}
 use Rattle.lalrpop_grammar.specs.declared.repr.Symbol.{Symbol}
 use Rattle.lalrpop_grammar.specs.declared.repr.Symbol.TheVariants.{Nonterminal}
-use Rattle.lalrpop_states.specs.closures.Closure.{ClosureTable, dotted_of, InKernel, HasItemToken, InTokenClosureBy}
+use Rattle.lalrpop_states.specs.closures.Closure.{ClosureTable, InKernel, HasItemToken, InTokenClosureBy}
 use Rattle.lalrpop_collections.specs.lists.Entries.{IsFound}
 
 -- the token is a terminal in FIRST of the symbols

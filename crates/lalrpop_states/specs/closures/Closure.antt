@@ -6,7 +6,7 @@ use Rattle.lalrpop_grammar.specs.grammars.WellFormed.{Rules}
 use Rattle.lalrpop_collections.specs.lists.Bits.{Bits}
 use Rattle.lalrpop_collections.specs.lists.Places.{AllDiffer}
 use Rattle.lalrpop_states.specs.states.Contents.{holds_token}
-use Rattle.lalrpop_states.specs.states.Items.{Dotted}
+use Rattle.lalrpop_states.specs.states.Items.{Dotted, dotted_of}
 use Rattle.lalrpop_states.specs.declared.lookahead.nil.Nil.{Nil}
 use Rattle.lalrpop_grammar.specs.declared.lookahead.token.Token.{Token}
 use Rattle.lalrpop_grammar.specs.declared.repr.TerminalString.{TerminalString}
@@ -14,10 +14,6 @@ use Rattle.lalrpop_grammar.specs.declared.repr.Production.{Production}
 use Rattle.lalrpop_grammar.specs.declared.repr.Symbol.{Symbol}
 use Rattle.lalrpop_grammar.specs.declared.repr.Symbol.TheVariants.{Nonterminal}
 use Rattle.lalrpop_states.specs.grammars.Ascending.{Ascend}
-
--- the dotted production of an item: its production and the index of its dot
-abbrev pub dotted_of : {L : Type 0} → Dotted L → Production × ℕ
-dotted_of {L} i = (i.production, i.index)
 
 -- the item with the set of bits that its lookahead means
 abbrev pub meant : {L : Type 0} → (L → Bits) → Dotted L → Dotted Bits

@@ -4,7 +4,7 @@ use Rattle.std.specs.BTreeMap.{BTreeMap, get}
 use Rattle.std.specs.declared.cmp.Ordering.{Ordering}
 use Rattle.lalrpop_states.specs.states.Coherent.{AreCoherent}
 use Rattle.lalrpop_collections.specs.lists.Each.{EachItem, EachEntry}
-use Rattle.lalrpop_states.specs.states.Items.{Dotted}
+use Rattle.lalrpop_states.specs.states.Items.{Dotted, dots}
 use Rattle.lalrpop_grammar.specs.grammars.WellFormed.{name_cmp}
 use Rattle.lalrpop_grammar.specs.contracts.repr.TerminalStringOrd.TheImpl as terminal_ord
 use Rattle.lalrpop_grammar.specs.declared.repr.Production.{Production}
@@ -12,10 +12,6 @@ use Rattle.lalrpop_states.specs.declared.lr1_core.state.State.{State}
 use Rattle.lalrpop_states.specs.declared.lr1_core.state.StateIndex.{StateIndex}
 
 module _ {L : Type 0} where
-  -- the dotted productions of items, in order
-  abbrev pub dots : List (Dotted L) → List (Production × ℕ)
-  dots items = map (λ (i : Dotted L). (i.production, i.index)) items
-
   -- the dotted productions of a state, or none if there is no state
   abbrev pub dots_of : Option (State L) → List (Production × ℕ)
   dots_of None = []

@@ -9,7 +9,7 @@ use Rattle.lalrpop_grammar.specs.grammars.WellFormed.{productions, name_cmp}
 use Rattle.lalrpop_collections.specs.lists.Bits.{Bits}
 use Rattle.lalrpop_collections.specs.lists.Places.{AllDiffer}
 use Rattle.lalrpop_states.specs.states.Contents.{number_of}
-use Rattle.lalrpop_states.specs.states.Items.{Dotted, with_dot}
+use Rattle.lalrpop_states.specs.states.Items.{Dotted, dots, with_dot}
 use Rattle.lalrpop_states.specs.conflicts.StateConflicts.{IsConflictFree}
 use Rattle.lalrpop_grammar.specs.contracts.repr.TerminalStringOrd.TheImpl as terminal_ord
 use Rattle.lalrpop_states.specs.declared.lookahead.nil.Nil.{Nil}
@@ -20,12 +20,7 @@ use Rattle.lalrpop_grammar.specs.declared.repr.Production.{Production}
 use Rattle.lalrpop_grammar.specs.declared.repr.Symbol.{Symbol}
 use Rattle.lalrpop_grammar.specs.declared.repr.Symbol.TheVariants.{Nonterminal, Terminal}
 use Rattle.lalrpop_grammar.specs.declared.repr.grammar.Grammar.{Grammar}
-use Rattle.lalrpop_states.specs.closures.Closure.{dotted_of}
 use Rattle.lalrpop_states.specs.closures.CheckClosing.{AreClosure, IsMovedIn}
-
--- the dotted productions of items
-abbrev pub dots : List (Dotted Bits) → List (Production × ℕ)
-dots items = map dotted_of items
 
 -- the number of the state to which a symbol leads from the state, if there is one
 abbrev pub target_of : State Bits → Symbol → Option ℕ

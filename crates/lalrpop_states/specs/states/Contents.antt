@@ -4,7 +4,7 @@ use Rattle.std.specs.Borrow.{Bor}
 use Rattle.std.specs.BTreeMap.{get}
 use Rattle.std.specs.List.{flat_map}
 use Rattle.lalrpop_collections.specs.lists.Bits.{Bits, has}
-use Rattle.lalrpop_states.specs.states.Items.{Dotted}
+use Rattle.lalrpop_states.specs.states.Items.{Dotted, dotted_of}
 use Rattle.lalrpop_grammar.specs.states.States.{Reduction, Contents}
 use Rattle.lalrpop_grammar.specs.grammars.TerminalPlaces.{place_in}
 use Rattle.lalrpop_grammar.specs.grammars.WellFormed.{name_cmp}
@@ -38,10 +38,6 @@ no_contents = record { items = []; shift = λ t. None; goto = λ name. None; red
 
 -- which tokens a lookahead holds is a parameter, so that these definitions apply to any lookahead
 module _ {L : Type 0} (holds : L → Token → Bool) where
-  -- the dotted production of an item
-  abbrev pub dotted_of : Dotted L → Production × ℕ
-  dotted_of item = (item.production, item.index)
-
   -- the reduction of the definitions that a reduction of the code means
   abbrev pub reduction_of : L × Bor Production → Reduction
   reduction_of r = record { production = r.1.now; holds = holds r.0 }

@@ -1,5 +1,5 @@
 -- Items: productions with a dot and a lookahead.
-use Rattle.std.specs.Prelude.{◌≡◌, ℕ, Bool, true, ◌==◌, ◌&&◌}
+use Rattle.std.specs.Prelude.{◌≡◌, ℕ, Bool, true, ◌==◌, ◌&&◌, List, map}
 use Rattle.std.proofs.Common.{ap, ◌∙◌, eqb-true}
 use Rattle.lalrpop_collections.specs.lists.Exact.{Exactly, both}
 use Rattle.lalrpop_states.specs.declared.lookahead.nil.Nil.{Nil}
@@ -10,6 +10,14 @@ pub record Dotted (L : Type 0) : Type 0 where
   pub production : Production
   pub index : ℕ
   pub lookahead : L
+
+-- the dotted production of an item: its production and the index of its dot
+abbrev pub dotted_of : {L : Type 0} → Dotted L → Production × ℕ
+dotted_of {L} i = (i.production, i.index)
+
+-- the dotted productions of items, in order
+abbrev pub dots : {L : Type 0} → List (Dotted L) → List (Production × ℕ)
+dots {L} items = map dotted_of items
 
 -- the production with the dot at an index, as an item without lookahead
 abbrev pub with_dot : Production → ℕ → Dotted Nil

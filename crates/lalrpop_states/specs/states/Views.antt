@@ -46,8 +46,8 @@ module _ {L : Type 0} where
   rest_of item = drop item.index item.production.symbols
 
   -- the nonterminal that the item produces
-  abbrev pub name_of : Dotted L → NonterminalString
-  name_of item = item.production.nonterminal
+  abbrev pub nonterminal_of : Dotted L → NonterminalString
+  nonterminal_of item = item.production.nonterminal
 
   -- whether the dot is past the start
   abbrev pub has_moved : Dotted L → Bool

@@ -1,7 +1,8 @@
 //! The test whether states with the same dotted productions can be merged.
 ghost use Rattle.std.specs.Prelude.{◌≡◌, ◌↔◌, IsTrue};
 ghost use Rattle.lalrpop_collections.specs.lists.Each.{EachItem};
-ghost use Rattle.lalrpop_states.specs.collapse.Collapsible.{dots, dots_at, LeadAlike, LeadsAlike, IsAlikeTo, AreCollapsible};
+ghost use Rattle.lalrpop_states.specs.collapse.Collapsible.{dots_at, LeadAlike, LeadsAlike, IsAlikeTo, AreCollapsible};
+ghost use Rattle.lalrpop_states.specs.states.Items.{dots};
 
 use super::coherent::are_coherent;
 use super::item::Item;

@@ -3,7 +3,7 @@
 ghost use Rattle.std.specs.Prelude.{◌≡◌, ◌<◌, ◌↔◌, ℕ, length, map, slice_get, option_copied, IfOk, IfSome, IsNone, IsTrue, Some};
 ghost use Rattle.lalrpop_collections.specs.lists.Each.{EachItem};
 ghost use Rattle.lalrpop_states.specs.states.ViewFolds.{longer_of, shorter_of};
-ghost use Rattle.lalrpop_states.specs.states.Views.{IsLastLongest, IsFirstShortestOrEmpty, IsOneName, prefix_of, rest_of, name_of, moved};
+ghost use Rattle.lalrpop_states.specs.states.Views.{IsLastLongest, IsFirstShortestOrEmpty, IsOneName, prefix_of, rest_of, nonterminal_of, moved};
 
 use super::item::Item;
 use super::state::State;
@@ -65,7 +65,7 @@ impl<'grammar, L> State<'grammar, L> {
     /// The nonterminal that all items whose dot is past the start produce. `None` if they produce
     /// several or there is no such item; `OutOfMemory` if an allocation fails.
     pub fn will_produce(&self, alloc: Global) -> Result<Option<NonterminalString>, OutOfMemory>
-        ensures one { IfOk result (IsOneName (map name_of (moved self.now.items.vec.items))) }
+        ensures one { IfOk result (IsOneName (map nonterminal_of (moved self.now.items.vec.items))) }
     {
         let items = self.items.vec.as_slice();
         match first_moved(items) {

@@ -1,4 +1,5 @@
 -- The results of a construction of tables.
 pub mod ByLanes
 pub mod Lr1Answers
+pub mod NotCollapsed
 pub mod TablesOrCount

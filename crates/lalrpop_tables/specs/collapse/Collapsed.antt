@@ -5,12 +5,11 @@ use Rattle.std.specs.Borrow.{Bor}
 use Rattle.std.specs.BTreeMap.{BTreeMap, IsOrdered, get}
 use Rattle.std.specs.List.Sorted.{IsStrictlySortedBy}
 use Rattle.std.specs.declared.cmp.Ordering.{Ordering}
-use Rattle.lalrpop_states.specs.collapse.Collapsible.{dots}
 use Rattle.lalrpop_states.specs.conflicts.Failures.{IfConflicts}
 use Rattle.lalrpop_grammar.specs.grammars.WellFormed.{name_cmp}
 use Rattle.lalrpop_collections.specs.lists.Bits.{Bits, has}
 use Rattle.lalrpop_collections.specs.lists.Each.{EachItem}
-use Rattle.lalrpop_states.specs.states.Items.{Dotted}
+use Rattle.lalrpop_states.specs.states.Items.{Dotted, dots}
 use Rattle.lalrpop_grammar.specs.contracts.repr.TerminalStringOrd.TheImpl as terminal_ord
 use Rattle.lalrpop_states.specs.declared.lr1_core.state.BuildError.{BuildError}
 use Rattle.lalrpop_states.specs.declared.lr1_core.state.State.{State}

@@ -16,5 +16,5 @@ after_mark (SymbolOf x) = codes " " ++ symbol_text x
 after_mark Epsilon = []
 
 -- symbols with a mark before the one at the place, or after all if there is none
-abbrev pub marked_text : List ExampleSymbol → ℕ → List ℕ
-marked_text symbols place = flat_map before_mark (take place symbols) ++ (codes "(*)" ++ flat_map after_mark (drop place symbols))
+abbrev pub example_text : List ExampleSymbol → ℕ → List ℕ
+example_text symbols place = flat_map before_mark (take place symbols) ++ (codes "(*)" ++ flat_map after_mark (drop place symbols))

@@ -77,9 +77,9 @@ module _ (graph : TraceGraph) where
   suffixes (k ∷ path) = edge_suffix (edge_of k) ++ suffixes path
 
   -- the innermost cursor, or `Epsilon` for an empty right side
-  abbrev pub place : List ℕ → List ExampleSymbol
-  place [] = []
-  place (k ∷ path) = place_of (edge_cursor (edge_of k)) (edge_prefix (edge_of k))
+  abbrev pub example_place : List ℕ → List ExampleSymbol
+  example_place [] = []
+  example_place (k ∷ path) = place_of (edge_cursor (edge_of k)) (edge_prefix (edge_of k))
 
   -- the innermost cursor, if there is one
   abbrev pub innermost : List ℕ → List Symbol
@@ -92,7 +92,7 @@ module _ (graph : TraceGraph) where
 
   -- the symbols of the example
   abbrev pub spelled : List ℕ → List ExampleSymbol
-  spelled path = map SymbolOf (prefixes path) ++ (place path ++ map SymbolOf (suffixes path))
+  spelled path = map SymbolOf (prefixes path) ++ (example_place path ++ map SymbolOf (suffixes path))
 
   -- the reductions of an example of so many symbols, the innermost first. Each reaches from after
   -- the prefixes to before the suffixes of the edges around it

@@ -2,7 +2,7 @@
 ghost use Rattle.std.specs.Prelude.{◌≡◌, IfOk, Some};
 ghost use Rattle.std.specs.Fmt.{WritesOnOk};
 ghost use Rattle.std.specs.List.{flat_map};
-ghost use Rattle.lalrpop_traces.specs.traces.ExampleTexts.{after_mark, before_mark, marked_text};
+ghost use Rattle.lalrpop_traces.specs.traces.ExampleTexts.{after_mark, before_mark, example_text};
 ghost use Rattle.lalrpop_traces.specs.traces.Examples.{IsSameExample};
 
 use lalrpop_base::memory::OutOfMemory;
@@ -97,7 +97,7 @@ fn clone_reductions(alloc: Global, reductions: &[Reduction]) -> Result<Vec<Reduc
 
 /// Prints the symbols, with `(*)` at the cursor: `E "+" E (*) "+" E`.
 impl fmt::Display for Example {
-    ghost output = { λ example. Some (marked_text example.symbols.items example.cursor) };
+    ghost output = { λ example. Some (example_text example.symbols.items example.cursor) };
 
     fn fmt<W: fmt::Write>(&self, f: &mut fmt::Formatter<W>) -> fmt::Result {
         let (before, after) = self.symbols.split_at(min(self.cursor, self.symbols.len()));

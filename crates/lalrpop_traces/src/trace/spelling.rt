@@ -1,7 +1,7 @@
 //! The example that a path spells.
 ghost use Rattle.std.specs.Prelude.{◌≡◌, ◌≤◌, ◌++◌, List, map, length, slice_get, option_copied, Some, Contains, IfOk, OnOk};
 ghost use Rattle.lalrpop_base.specs.Words.{IsFirstSet, HasKnownTerminals};
-ghost use Rattle.lalrpop_traces.specs.traces.Examples.{IsExampleOf, path_of, prefixes, suffixes, place, place_of, example_reductions, reduced_at, cursor_list, innermost, following};
+ghost use Rattle.lalrpop_traces.specs.traces.Examples.{IsExampleOf, path_of, prefixes, suffixes, example_place, place_of, example_reductions, reduced_at, cursor_list, innermost, following};
 ghost use Rattle.lalrpop_traces.specs.traces.TraceGraphs.{AreKnownEdges};
 ghost use Rattle.lalrpop_grammar.specs.declared.repr.TerminalString.{TerminalString};
 
@@ -162,7 +162,7 @@ fn push_place<'grammar>(
     symbols: &mut Vec<ExampleSymbol>,
 ) -> Result<(), OutOfMemory>
     ensures { OnOk result
-        (symbols.new.items ≡ symbols.old.items ++ place graph.now (path_of path.now)) }
+        (symbols.new.items ≡ symbols.old.items ++ example_place graph.now (path_of path.now)) }
 {
     let Some((innermost, _)) = path.split_first() else {
         return Ok(());

@@ -15,7 +15,7 @@ use Rattle.lalrpop_check.proofs.Types.{Grammar, NonterminalString, Production, S
 use Rattle.lalrpop_grammar.specs.declared.lookahead.token.Token.TheVariants.{Eof, Error, Terminal as TokenOf}
 use Rattle.lalrpop_grammar.specs.declared.repr.Symbol.TheVariants.{Nonterminal, Terminal}
 use Rattle.lalrpop_states.proofs.theory.states.HeldTokens.{place_there}
-use Rattle.lalrpop_states.specs.states.CheckStates.{dots}
+use Rattle.lalrpop_states.specs.states.Items.{dots}
 use Rattle.lalrpop_states.specs.declared.lr1_core.place.Place.{Place}
 use Rattle.lalrpop_construction.proofs.theory.canonical.Canonical.{start_tokens}
 use Rattle.lr1_theory.proofs.theory.check.CheckSending.{Entry, same_place}

@@ -6,7 +6,7 @@ use Rattle.lalrpop_base.specs.Words.{Bits, InClosure, in_kernel, expanded, IsAtS
 use Rattle.lalrpop_base.specs.Words.{IsMovedOf, AreClosure, AreOwn, lr0_at_start, AllWait, Visits}
 use Rattle.lalrpop_check.proofs.Types.{Grammar, Nil, NonterminalString, Production, Symbol}
 use Rattle.lalrpop_grammar.specs.declared.repr.Symbol.TheVariants.{Nonterminal}
-use Rattle.lalrpop_states.specs.closures.Closure.{dotted_of}
+use Rattle.lalrpop_states.specs.states.Items.{dots, dotted_of}
 use Rattle.lalrpop_collections.specs.declared.collections.walk.Walk.{Walk}
 use Rattle.lalrpop_construction.proofs.theory.canonical.Canonical.{InClosure-more}
 use Rattle.lalrpop_states.proofs.theory.closures.Closing.{drop_split, split_drop}
@@ -49,9 +49,6 @@ pub Expansions-none : (g : Grammar) (item : Key) (walk : Walk Key) → ((name : 
 Expansions-none g item walk none = Visits-none (IsExpansionOf g item) walk (λ k h. none h.name h.behind)
 
 -- the items of a list whose dot moved, one more
-abbrev dots : List (Dotted Bits) → List (Production × ℕ)
-dots items = map dotted_of items
-
 pub Moved-none : (walk : Walk Key) → Visits (IsMovedOf []) walk walk
 Moved-none walk = Visits-none (IsMovedOf []) walk (λ k b. Contains-none (k.production, k.index) b.1)
 

@@ -15,8 +15,8 @@ use Rattle.lalrpop_grammar.specs.declared.lookahead.token.Token.TheVariants.{Ter
 use Rattle.lalrpop_grammar.specs.declared.repr.Symbol.TheVariants.{Terminal}
 use Rattle.lalrpop_states.proofs.theory.states.ContentsViews.{LeadAsItemsSay, lead_as_items_say}
 use Rattle.lalrpop_collections.proofs.theory.lists.Lists.{some_of_map, contains_of_map}
-use Rattle.lalrpop_states.specs.closures.Closure.{dotted_of}
-use Rattle.lalrpop_states.specs.states.CheckStates.{dots, productions_of_reductions, target_of, AreListed}
+use Rattle.lalrpop_states.specs.states.Items.{dots, dotted_of}
+use Rattle.lalrpop_states.specs.states.CheckStates.{productions_of_reductions, target_of, AreListed}
 use Rattle.lalrpop_base.specs.Words.{target_from}
 use Rattle.lalrpop_construction.proofs.theory.canonical.Canonical.{InClosure-more}
 use Rattle.lalrpop_check.proofs.theory.check.CheckCarrying.{leads_in}

@@ -10,8 +10,8 @@ use Rattle.lalrpop_base.specs.Words.{AllDiffer, AreCoherent, Bits, Dotted, InKer
 use Rattle.lalrpop_base.specs.Words.{AreAllConflictFree, IsMovedIn, IsReached, IsRightItem, IsRightState, IsRightTarget, IsTarget, AreRightStates, at_zero, with_dot}
 use Rattle.lalrpop_base.specs.Words.{AreNumbers, AreClosure}
 use Rattle.lalrpop_grammar.specs.closures.Closures.{over_edge}
-use Rattle.lalrpop_states.specs.closures.Closure.{dotted_of}
-use Rattle.lalrpop_states.specs.states.CheckStates.{AreListed, IsListed, dots, productions_of_reductions, target_of}
+use Rattle.lalrpop_states.specs.states.Items.{dots, dotted_of}
+use Rattle.lalrpop_states.specs.states.CheckStates.{AreListed, IsListed, productions_of_reductions, target_of}
 use Rattle.lalrpop_check.proofs.Types.{Grammar, Nil, NonterminalString, Production, State, Symbol, Token}
 use Rattle.lalrpop_grammar.specs.declared.repr.Symbol.TheVariants.{Nonterminal, Terminal}
 use Rattle.lalrpop_collections.proofs.theory.lists.Members.{Contains-none, contains-cons, contains_head, contains_map, contains_tail, place}

@@ -8,7 +8,7 @@ use Rattle.lalrpop_base.specs.Words.{IsWellFormed, item_at_start, IsBehind, Shif
 use Rattle.lalrpop_construction.proofs.Types.{Grammar, NonterminalString, Production, Symbol, TerminalString, Token}
 use Rattle.lalrpop_grammar.specs.declared.lookahead.token.Token.TheVariants.{Eof, Error, Terminal as TokenOf}
 use Rattle.lalrpop_states.proofs.theory.states.HeldTokens.{place_there}
-use Rattle.lalrpop_states.specs.closures.Closure.{dotted_of}
+use Rattle.lalrpop_states.specs.states.Items.{dotted_of}
 use Rattle.lalrpop_states.specs.construction.Transitions.Shifts.{none, moves, stays}
 use Rattle.lalrpop_states.proofs.theory.closures.Closing.{drop_split, split_drop}
 use Rattle.lalrpop_grammar.proofs.theory.grammars.Grammars.{productions_among, productions_named}

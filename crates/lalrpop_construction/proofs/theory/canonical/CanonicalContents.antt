@@ -7,7 +7,8 @@ use Rattle.lalrpop_base.specs.Words.{productions, productions_of, rules_of, IsWe
 use Rattle.lalrpop_construction.specs.Words.{tokens_of, AreCanonicalStates}
 use Rattle.lalrpop_grammar.specs.states.States.{Reduction}
 use Rattle.lalrpop_construction.proofs.Types.{Grammar, NonterminalString, Production, State, Symbol, Token}
-use Rattle.lalrpop_states.specs.closures.Closure.{dotted_of, itself}
+use Rattle.lalrpop_states.specs.closures.Closure.{itself}
+use Rattle.lalrpop_states.specs.states.Items.{dotted_of}
 use Rattle.lalrpop_construction.specs.Words.{AreStatesOf, canonical_of}
 use Rattle.lalrpop_base.specs.Words.{item_at_start}
 use Rattle.lalrpop_construction.specs.states.Canonical.{item_has_token}

@@ -7,7 +7,7 @@ use Rattle.lalrpop_states.specs.declared.lr1_core.state.BuildError.TheVariants.{
 use Rattle.lalrpop_collections.proofs.theory.lists.Ascending.{ascending_same}
 use Rattle.lr1_theory.proofs.theory.closures.Closures.{reached_live}
 use Rattle.lr1_theory.proofs.theory.states.Lr0.{closed_lr0}
-use Rattle.lalrpop_states.specs.closures.Closure.{dotted_of}
+use Rattle.lalrpop_states.specs.states.Items.{dotted_of}
 use Rattle.lalrpop_base.specs.Words.{Precedes, Ascend, AreOwn, InKernel, IsClosureBy}
 use Rattle.lalrpop_construction.specs.Words.{on_any, AreLr0States, HasLr0States, HaveNoNilConflict, ListsNilConflicts}
 use Rattle.lalrpop_construction.specs.Words.{StopsFor, Construction, Settings, AreStatesFor, AreTablesFor, FailsFor}

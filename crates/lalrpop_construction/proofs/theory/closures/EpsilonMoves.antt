@@ -9,7 +9,7 @@ use Rattle.lalrpop_construction.specs.Words.{IsItemAtStart, AreItemsAtStart}
 use Rattle.lalrpop_construction.proofs.Types.{Grammar, NonterminalString, Production, Symbol, TerminalString, Token}
 use Rattle.lalrpop_grammar.specs.declared.lookahead.token.Token.TheVariants.{Eof, Error, Terminal as TokenOf}
 use Rattle.lalrpop_states.proofs.theory.states.HeldTokens.{place_there}
-use Rattle.lalrpop_states.specs.closures.Closure.{dotted_of}
+use Rattle.lalrpop_states.specs.states.Items.{dotted_of}
 use Rattle.lalrpop_grammar.proofs.theory.grammars.Grammars.{productions_among, productions_named}
 use Rattle.lalrpop_states.proofs.theory.grammars.KnownTerminals.{token_bit, held_bit, bit_held, begun_bit}
 use Rattle.lalrpop_collections.proofs.theory.lists.Members.{contains_map}

@@ -15,7 +15,7 @@ use Rattle.lalrpop_construction.specs.Words.{AllFit, IsExpansionWith, IsNamed, I
 use Rattle.lalrpop_construction.specs.Words.{IsPropagation, MayFollow, MayFollowIn, NonterminalTokens, Propagates, StandsBehind, StandsBehindOne}
 use Rattle.lalrpop_construction.proofs.Types.{NonterminalString, Production, Symbol, Token}
 use Rattle.lalrpop_grammar.specs.declared.repr.Symbol.TheVariants.{Nonterminal}
-use Rattle.lalrpop_states.specs.closures.Closure.{dotted_of}
+use Rattle.lalrpop_states.specs.states.Items.{dotted_of}
 use Rattle.lalrpop_collections.specs.lists.Entries.{IsQueued}
 use Rattle.lalrpop_numbers.specs.declared.numbers.Numbers.{Numbers}
 use Rattle.lalrpop_collections.proofs.theory.lists.Growth.{Adds-one, Grows-none, Grows-then, entry_key, key_entry, known_kept, queued_among, queued_weighed}

@@ -4,7 +4,8 @@ use Rattle.std.specs.Prelude.{Contains}
 use Rattle.lalrpop_base.specs.Words.{Bits, InClosure, holds_token, Dotted, AllDiffer, Rules}
 use Rattle.lalrpop_construction.proofs.Types.{Production, Symbol, TerminalString, Token}
 use Rattle.lalrpop_collections.proofs.theory.lists.Lists.{contains_of_map}
-use Rattle.lalrpop_states.specs.closures.Closure.{dotted_of, itself}
+use Rattle.lalrpop_states.specs.closures.Closure.{itself}
+use Rattle.lalrpop_states.specs.states.Items.{dotted_of}
 use Rattle.lalrpop_base.specs.Words.{Ascend, meant, IsItemBy, AreItemsBy, AreItems, HasItemTokenBy, HasItemToken, IsClosureBy}
 use Rattle.lalrpop_base.specs.Words.{InTokenClosureBy, own_token, from_rest, from_parent}
 use Rattle.lalrpop_collections.proofs.theory.lists.Members.{contains_map}

@@ -12,7 +12,8 @@ use Rattle.lalrpop_construction.specs.Words.{with_tokens}
 use Rattle.lalrpop_construction.proofs.Types.{Nil, Production, Symbol, Token}
 use Rattle.lalrpop_grammar.specs.declared.repr.Symbol.TheVariants.{Nonterminal}
 use Rattle.lalrpop_collections.proofs.theory.lists.Lists.{contains_of_map, some_of_map}
-use Rattle.lalrpop_states.specs.closures.Closure.{dotted_of, itself}
+use Rattle.lalrpop_states.specs.closures.Closure.{itself}
+use Rattle.lalrpop_states.specs.states.Items.{dotted_of}
 use Rattle.lalrpop_collections.specs.lists.Entries.{Gathers}
 use Rattle.lalrpop_numbers.specs.declared.numbers.numbered.Numbered.{Numbered}
 use Rattle.lalrpop_numbers.specs.declared.numbers.Numbers.{Numbers}

@@ -6,7 +6,7 @@ use Rattle.std.proofs.lemmas.Option.{slice_get_within}
 use Rattle.lalrpop_base.specs.Words.{Bits, InClosure, in_kernel, IsAtStart, IsClosureOf, IsMoved, items_of, AreClosed, IsReached, KernelsDiffer, contents_of, contents_at}
 use Rattle.lalrpop_base.specs.Words.{contents_in, Dotted, Contents, leads, LeadsOverDots, ReducesFinished, Rules, Ascend, InKernel}
 use Rattle.lalrpop_construction.proofs.Types.{NonterminalString, Production, State, Symbol, Token}
-use Rattle.lalrpop_states.specs.closures.Closure.{dotted_of}
+use Rattle.lalrpop_states.specs.states.Items.{dotted_of}
 use Rattle.lalrpop_base.specs.Words.{AreBuiltBy, Shifts}
 use Rattle.lalrpop_construction.proofs.theory.canonical.Canonical.{InClosure-more, moved_items}
 use Rattle.lalrpop_construction.proofs.theory.construction.Coherence.{Built-some}

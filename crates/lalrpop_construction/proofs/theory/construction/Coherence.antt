@@ -7,7 +7,7 @@ use Rattle.lalrpop_base.specs.Words.{IsBuiltBy, IsBuiltOfBy, Extends, LeadsToAdd
 use Rattle.lalrpop_base.specs.Words.{seen_reduction, shifted, AddsKernels}
 use Rattle.lalrpop_construction.proofs.Types.{Production, State, StateIndex, Symbol}
 use Rattle.lalrpop_grammar.specs.declared.repr.Symbol.TheVariants.{Nonterminal, Terminal}
-use Rattle.lalrpop_states.specs.closures.Closure.{dotted_of}
+use Rattle.lalrpop_states.specs.states.Items.{dotted_of}
 use Rattle.lalrpop_collections.proofs.theory.lists.Members.{Contains-none, contains_head, contains_tail, contains-cons, place}
 use Rattle.lalrpop_states.specs.construction.Transitions.Shifts.{none, moves, stays}
 use Rattle.lalrpop_collections.proofs.theory.lists.Places.{contains_at, same_some, one_place, in_added}

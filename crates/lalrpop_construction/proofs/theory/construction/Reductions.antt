@@ -10,7 +10,7 @@ use Rattle.lalrpop_grammar.specs.states.States.{Reduction}
 use Rattle.lalrpop_construction.proofs.Types.{Production, State, Token}
 use Rattle.lalrpop_collections.proofs.theory.lists.Lists.{some_of_map, contains_of_map, contains_map}
 use Rattle.lalrpop_grammar.proofs.theory.conflicts.ConflictLists.{ordered-cons, ordered-head, ordered-tail, ordered-nil}
-use Rattle.lalrpop_states.specs.closures.Closure.{dotted_of}
+use Rattle.lalrpop_states.specs.states.Items.{dotted_of}
 use Rattle.lalrpop_states.proofs.theory.grammars.AscendingItems.{less_apart}
 use Rattle.lalrpop_collections.proofs.theory.lists.Members.{Contains-none, contains_head, contains_tail, contains-cons}
 use Rattle.lalrpop_construction.proofs.theory.construction.Shifting.{of_dotted}

@@ -6,7 +6,7 @@ use Rattle.lalrpop_base.specs.Words.{Precedes, Ascend, InKernel, HasItemToken, A
 use Rattle.lalrpop_construction.proofs.Types.{Production, Symbol, Token}
 use Rattle.lalrpop_collections.proofs.theory.lists.Ascending.{ascending_same}
 use Rattle.lalrpop_grammar.proofs.theory.conflicts.ConflictLists.{ordered-cons, ordered-head, ordered-tail}
-use Rattle.lalrpop_states.specs.closures.Closure.{dotted_of}
+use Rattle.lalrpop_states.specs.states.Items.{dotted_of}
 use Rattle.lalrpop_states.specs.construction.Transitions.Shifts.{none, moves, stays}
 use Rattle.lalrpop_states.proofs.theory.grammars.AscendingItems.{precedes_asymmetric}
 use Rattle.lalrpop_construction.proofs.theory.grammars.ItemTokens.{one_item, same_tokens}

@@ -8,7 +8,7 @@ use Rattle.std.proofs.lemmas.Map.Entries.{place_from_lookup}
 use Rattle.lalrpop_base.specs.Words.{Bits, Dotted, AllDiffer, FitsTokens, Rules, rules_of, IsWellFormed, productions_of, listed_productions, name_cmp, IsItemBy}
 use Rattle.lalrpop_base.specs.Words.{AreItemsBy, item_at_start, IsBehind, Shifts, shifted}
 use Rattle.lalrpop_construction.proofs.Types.{Grammar, NonterminalData, NonterminalString, Production, Symbol}
-use Rattle.lalrpop_states.specs.closures.Closure.{dotted_of}
+use Rattle.lalrpop_states.specs.states.Items.{dotted_of}
 use Rattle.lalrpop_states.specs.construction.Transitions.Shifts.{none, moves, stays}
 use Rattle.lalrpop_grammar.proofs.theory.grammars.Grammars.{productions_among}
 use Rattle.lalrpop_collections.proofs.theory.lists.Members.{Contains-none, contains_head, contains_tail, contains-cons, contains_map}

@@ -16,7 +16,7 @@ use Rattle.lalrpop_construction.proofs.Types.{Production, State, StateIndex, Sym
 use Rattle.lalrpop_grammar.specs.declared.repr.Symbol.TheVariants.{Nonterminal, Terminal}
 use Rattle.lalrpop_states.proofs.theory.states.ContentsViews.{terminals_ordered, names_ordered}
 use Rattle.lalrpop_collections.proofs.theory.lists.Lists.{some_of_map}
-use Rattle.lalrpop_states.specs.closures.Closure.{dotted_of}
+use Rattle.lalrpop_states.specs.states.Items.{dotted_of}
 use Rattle.lalrpop_base.specs.Words.{HasTransition, IsBuiltBy, AreBuiltBy, IsBehind}
 use Rattle.lalrpop_states.proofs.theory.closures.Closing.{drop_split, split_drop}
 use Rattle.lalrpop_construction.proofs.theory.construction.Coherence.{one_kernel}

@@ -5,7 +5,7 @@ use Rattle.std.specs.Prelude.{Contains, slice_get}
 use Rattle.std.proofs.lemmas.Option.{slice_get_within}
 use Rattle.lalrpop_base.specs.Words.{Dotted, InKernel, Rules, HasTransition, Shifts, shifted, IsBehindOne}
 use Rattle.lalrpop_construction.specs.Words.{ArePartlyBuiltBy, HasDotted}
-use Rattle.lalrpop_states.specs.closures.Closure.{dotted_of}
+use Rattle.lalrpop_states.specs.states.Items.{dotted_of}
 use Rattle.lalrpop_collections.proofs.theory.lists.Members.{contains_map}
 use Rattle.lalrpop_collections.proofs.theory.lists.Places.{same_some}
 use Rattle.lalrpop_construction.proofs.Types.{Production, State, StateIndex, Symbol}

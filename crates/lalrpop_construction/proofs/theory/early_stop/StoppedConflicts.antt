@@ -11,7 +11,7 @@ use Rattle.lalrpop_construction.proofs.Types.{Grammar, NonterminalString, Produc
 use Rattle.lalrpop_grammar.specs.declared.lookahead.token.Token.TheVariants.{Terminal as TokenOf}
 use Rattle.lalrpop_grammar.specs.declared.repr.Symbol.TheVariants.{Terminal}
 use Rattle.lalrpop_collections.proofs.theory.lists.Lists.{place_contains}
-use Rattle.lalrpop_states.specs.closures.Closure.{dotted_of}
+use Rattle.lalrpop_states.specs.states.Items.{dotted_of}
 use Rattle.lalrpop_construction.specs.Words.{ArePartlyBuilt, IsStateFor}
 use Rattle.lalrpop_base.specs.Words.{IsBuilt}
 use Rattle.lalrpop_construction.proofs.theory.canonical.CanonicalConflicts.{reductions_fit}

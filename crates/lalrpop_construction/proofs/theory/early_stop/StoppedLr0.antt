@@ -6,7 +6,7 @@ use Rattle.std.proofs.lemmas.Bool.{cases_lt}
 use Rattle.lalrpop_base.specs.Words.{InClosure, IsAtStart, IsMoved, Dotted, nil_conflicts, Valid, shifts, Rules, rules_of, productions, productions_of, IsWellFormed}
 use Rattle.lalrpop_construction.proofs.Types.{BuildError, Conflict, Grammar, Nil, NonterminalString, Production, State, StateIndex, Symbol}
 use Rattle.lalrpop_states.specs.declared.lr1_core.state.BuildError.TheVariants.{Conflicts, Memory}
-use Rattle.lalrpop_states.specs.closures.Closure.{dotted_of}
+use Rattle.lalrpop_states.specs.states.Items.{dotted_of}
 use Rattle.lalrpop_base.specs.Words.{AreOwn, InKernel}
 use Rattle.lalrpop_construction.specs.Words.{AreLr0States}
 use Rattle.lalrpop_construction.specs.Words.{ArePartlyBuiltBy, HasDotted, IsLr0StateFor, AreSomeLr0States, AreEnough, AreMadeFor}

@@ -5,7 +5,8 @@ use Rattle.std.specs.Prelude.{Contains, slice_get}
 use Rattle.lalrpop_base.specs.Words.{Bits, no_bits, with_bit, InClosure, InTokenClosure, IsAtStart, IsAtStartWith, IsMoved, IsMovedWith, Dotted, AllDiffer}
 use Rattle.lalrpop_base.specs.Words.{Valid, shifts, ValidToken, rules_of, productions, productions_of, IsWellFormed, AreOwn, InKernel, HasItemToken, IsClosureOf}
 use Rattle.lalrpop_construction.proofs.Types.{Grammar, NonterminalString, Production, State, StateIndex, Symbol, Token}
-use Rattle.lalrpop_states.specs.closures.Closure.{itself, dotted_of}
+use Rattle.lalrpop_states.specs.closures.Closure.{itself}
+use Rattle.lalrpop_states.specs.states.Items.{dotted_of}
 use Rattle.lalrpop_construction.specs.Words.{ArePartlyBuilt, HasDotted, IsStateFor, HaveSameContents, AreSomeCanonicalStates}
 use Rattle.lalrpop_base.specs.Words.{item_at_start, HasTransition}
 use Rattle.lalrpop_construction.proofs.theory.canonical.Canonical.{start_items, start_tokens, moved_items, moved_tokens, InClosure-more}

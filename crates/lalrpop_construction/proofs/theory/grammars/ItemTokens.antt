@@ -14,7 +14,7 @@ use Rattle.lalrpop_grammar.specs.contracts.repr.ProductionPartialEq.TheImpl as p
 use Rattle.lalrpop_construction.proofs.Types.{Production, TerminalString, Token}
 use Rattle.lalrpop_grammar.specs.declared.lookahead.token.Token.TheVariants.{Eof, Error, Terminal as TokenOf}
 use Rattle.lalrpop_states.proofs.theory.states.HeldTokens.{place_is, same_test}
-use Rattle.lalrpop_states.specs.closures.Closure.{dotted_of}
+use Rattle.lalrpop_states.specs.states.Items.{dotted_of}
 use Rattle.lalrpop_states.proofs.theory.grammars.KnownTerminals.{token_bit, held_bit, bit_held}
 use Rattle.lalrpop_collections.proofs.theory.lists.Members.{contains_head, contains_tail, place}
 use Rattle.lalrpop_collections.proofs.theory.lists.Places.{same_some, filled, one_place}

@@ -4,7 +4,7 @@ use Rattle.std.specs.Prelude.{slice_get, option_map, Contains}
 use Rattle.std.proofs.lemmas.List.{length-map}
 use Rattle.std.proofs.lemmas.Option.{slice_get_within, slice_get-map}
 use Rattle.lalrpop_base.specs.Words.{AllDiffer, Dotted, InKernel, with_dot, dotted_at, item_by, items_by, Ascend}
-use Rattle.lalrpop_states.specs.closures.Closure.{dotted_of}
+use Rattle.lalrpop_states.specs.states.Items.{dotted_of}
 use Rattle.lalrpop_collections.proofs.theory.lists.Members.{contains_map, place}
 use Rattle.lalrpop_collections.proofs.theory.lists.Places.{contains_at, filled, one_place, same_some}
 use Rattle.lr1_theory.proofs.theory.grammars.Tables.{same_lr0}

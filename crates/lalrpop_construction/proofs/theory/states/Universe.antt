@@ -5,7 +5,7 @@ use Rattle.std.specs.List.{flat_map, range_with_len}
 use Rattle.std.proofs.lemmas.Option.{slice_get-map}
 use Rattle.lalrpop_base.specs.Words.{Bits, Dotted, AllDiffer, Rules, meant, IsItemOf, AreItems, AreItemsBy}
 use Rattle.lalrpop_construction.proofs.Types.{Production}
-use Rattle.lalrpop_states.specs.closures.Closure.{dotted_of}
+use Rattle.lalrpop_states.specs.states.Items.{dotted_of}
 use Rattle.std.proofs.lemmas.List.{length-map}
 use Rattle.lalrpop_collections.proofs.theory.lists.Lists.{contains_of_map, some_of_map}
 use Rattle.lalrpop_collections.proofs.theory.lists.Bounded.{lists, in_flat_map, kernels_few}

@@ -7,7 +7,7 @@ use Rattle.lalrpop_states.specs.Words.{holds_token, Dotted}
 use Rattle.lalrpop_states.proofs.Types.{Nil, Production, Symbol, Token}
 use Rattle.lalrpop_grammar.specs.declared.repr.Symbol.TheVariants.{Nonterminal}
 use Rattle.lalrpop_collections.proofs.theory.lists.Lists.{contains_of_map}
-use Rattle.lalrpop_states.specs.closures.Closure.{dotted_of}
+use Rattle.lalrpop_states.specs.states.Items.{dotted_of}
 use Rattle.lalrpop_states.specs.Words.{InKernel, HasItemToken, InTokenClosureBy, own_token, from_rest, from_parent, ClosureTable, item_of, HasPropagated, IsTokenClosed}
 use Rattle.lalrpop_states.proofs.theory.grammars.KnownTerminals.{holds_more}
 use Rattle.lalrpop_collections.proofs.theory.lists.Members.{contains_map}

@@ -55,15 +55,15 @@ entry_at {R = R} total exact P m key n each e =
     (target, same, each k (key, target) place)
 
 module _ {L : Type 0} (holds : L → Token → Bool) where
-  has_item : (items : List (Dotted L)) (p : Production) (d : ℕ) → HasItem items p d → Contains (map (dotted_of holds) items) (p, d)
+  has_item : (items : List (Dotted L)) (p : Production) (d : ℕ) → HasItem items p d → Contains (map dotted_of items) (p, d)
   has_item items p d (k, item, there, at) =
       let e : (item.production, item.index) ≡ (p, d) = ap (λ (q : Production). (q, item.index)) at.same ∙ ap (λ (i : ℕ). (p, i)) at.dot in
-      subst (Contains (map (dotted_of holds) items)) e (contains_map (dotted_of holds) items item (place_contains items k item there))
+      subst (Contains (map dotted_of items)) e (contains_map dotted_of items item (place_contains items k item there))
 
-  item_of : (items : List (Dotted L)) (p : Production) (d : ℕ) → Contains (map (dotted_of holds) items) (p, d) →
+  item_of : (items : List (Dotted L)) (p : Production) (d : ℕ) → Contains (map dotted_of items) (p, d) →
       (k : ℕ) × (item : Dotted L) × (slice_get items k ≡ Some item) × (item.production ≡ p) × (item.index ≡ d)
   item_of items p d h =
-      let (item, there, same) = contains_of_map (dotted_of holds) items (p, d) h in
+      let (item, there, same) = contains_of_map dotted_of items (p, d) h in
       let (k, place) = contains_place items item there in
       (k, item, place, ap (λ (i : Production × ℕ). i.0) same, ap (λ (i : Production × ℕ). i.1) same)
 

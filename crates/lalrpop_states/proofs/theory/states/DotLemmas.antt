@@ -3,22 +3,18 @@ use Rattle.std.proofs.Common.{◌≡◌, ℕ, zero, suc, ◌+◌, ◌<◌, List,
 use Rattle.std.specs.Prelude.{slice_get, Some}
 use Rattle.std.proofs.lemmas.Bool.{cases_lt}
 use Rattle.lalrpop_collections.proofs.theory.lists.EachLemmas.{same_at}
-use Rattle.lalrpop_states.specs.Words.{dots, Dotted}
+use Rattle.lalrpop_states.specs.Words.{dots, dotted_of, Dotted}
 use Rattle.lalrpop_states.proofs.Types.{Production}
 
 -- the lists have the same dotted production at each index below a number
 abbrev pub AgreeBelow : {L : Type 0} → List (Dotted L) → List (Dotted L) → ℕ → Type 0
 AgreeBelow {L} a b n = (k : ℕ) (x y : Dotted L) → k < n → slice_get a k ≡ Some x → slice_get b k ≡ Some y → (x.production ≡ y.production) × (x.index ≡ y.index)
 
--- the dotted production of an item
-abbrev dot_of : {L : Type 0} → Dotted L → Production × ℕ
-dot_of i = (i.production, i.index)
-
 abbrev pair : Production → ℕ → Production × ℕ
 pair p n = (p, n)
 
 module _ {L : Type 0} where
-  same_dot : (x y : Dotted L) → (x.production ≡ y.production) × (x.index ≡ y.index) → dot_of x ≡ dot_of y
+  same_dot : (x y : Dotted L) → (x.production ≡ y.production) × (x.index ≡ y.index) → dotted_of x ≡ dotted_of y
   same_dot x y h = ap (λ (p : Production). pair p x.index) h.0 ∙ ap (λ (n : ℕ). pair y.production n) h.1
 
   pub dots_agree : (a b : List (Dotted L)) → length a ≡ length b → AgreeBelow a b (length a) → dots a ≡ dots b
@@ -26,9 +22,9 @@ module _ {L : Type 0} where
   dots_agree [] (y ∷ ys) l e = absurd (omega arith)
   dots_agree (x ∷ xs) [] l e = absurd (omega arith)
   dots_agree (x ∷ xs) (y ∷ ys) l e =
-      let first : dot_of x ≡ dot_of y = same_dot x y (e 0 x y (omega arith) refl refl) in
+      let first : dotted_of x ≡ dotted_of y = same_dot x y (e 0 x y (omega arith) refl refl) in
       let rest : dots xs ≡ dots ys = dots_agree xs ys (omega arith) (λ k p q less. e (suc k) p q (omega arith)) in
-      ap (λ (d : Production × ℕ). d ∷ dots xs) first ∙ ap (λ (ds : List (Production × ℕ)). dot_of y ∷ ds) rest
+      ap (λ (d : Production × ℕ). d ∷ dots xs) first ∙ ap (λ (ds : List (Production × ℕ)). dotted_of y ∷ ds) rest
 
   -- the lists agree below one index more
   pub agree_more : (a b : List (Dotted L)) (i : ℕ) (x y : Dotted L) → i < length a → x ≡ get_or a i x → i < length b → y ≡ get_or b i y → (x.production ≡ y.production) × (x.index ≡ y.index) → AgreeBelow a b i → AgreeBelow a b (i + 1)
@@ -51,7 +47,7 @@ module _ {L : Type 0} where
   agree_of_dots (u ∷ us) (v ∷ vs) e zero x y at_a at_b =
       let same_a : u ≡ x = cc in
       let same_b : v ≡ y = cc in
-      let heads : dot_of u ≡ dot_of v = cc in
+      let heads : dotted_of u ≡ dotted_of v = cc in
       let production : u.production ≡ v.production = ap (λ (d : Production × ℕ). d.0) heads in
       let index : u.index ≡ v.index = ap (λ (d : Production × ℕ). d.1) heads in
       (rw (← same_a, ← same_b) production, rw (← same_a, ← same_b) index)

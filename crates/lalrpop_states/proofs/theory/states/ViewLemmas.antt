@@ -3,7 +3,7 @@ use Rattle.std.proofs.Common.{◌≡◌, ℕ, zero, suc, ◌<◌, ◌≤◌, ◌
 use Rattle.std.specs.Prelude.{cond, nat_lt, slice_get, Option, Some, None, unwrap_or}
 use Rattle.std.proofs.lemmas.List.{append-nil, drop_all}
 use Rattle.std.proofs.lemmas.Bool.{cases_Bool, ltb-true, ltb-false, lt-ltb}
-use Rattle.lalrpop_states.specs.Words.{Dotted, IsLastLongest, IsFirstShortest, IsFirstShortestOrEmpty, prefix_of, name_of, has_moved, moved, AreAll, shorter_of}
+use Rattle.lalrpop_states.specs.Words.{Dotted, IsLastLongest, IsFirstShortest, IsFirstShortestOrEmpty, prefix_of, nonterminal_of, has_moved, moved, AreAll, shorter_of}
 use Rattle.lalrpop_states.specs.Words.{longer_of, shortest_from, longest_from}
 use Rattle.lalrpop_collections.specs.Words.{EachItem}
 use Rattle.lalrpop_states.proofs.Types.{NonterminalString, Symbol}
@@ -172,31 +172,31 @@ module _ {L : Type 0} where
 -- the names of the items whose dot is past the start
 module _ {L : Type 0} where
   abbrev Named : List (Dotted L) → NonterminalString → Type 0
-  Named items name = (j : ℕ) × (item : Dotted L) × (slice_get items j ≡ Some item) × (has_moved item ≡ true) × (name_of item ≡ name)
+  Named items name = (j : ℕ) × (item : Dotted L) × (slice_get items j ≡ Some item) × (has_moved item ≡ true) × (nonterminal_of item ≡ name)
 
   named_later : (first : Dotted L) (items : List (Dotted L)) (name : NonterminalString) → Named items name → Named (first ∷ items) name
   named_later first items name (j, item, there, past, same) = (suc j, item, there, past, same)
 
-  named_head : (first : Dotted L) (items : List (Dotted L)) (name : NonterminalString) → ((k : ℕ) → slice_get (map name_of (moved items)) k ≡ Some name → Named items name) →
-      (t : Bool) → has_moved first ≡ t → (k : ℕ) → slice_get (map name_of (cond t (first ∷ moved items) (moved items))) k ≡ Some name → Named (first ∷ items) name
-  named_head first items name later true is zero at = (0, first, refl, is, ap (λ o. unwrap_or o (name_of first)) at)
+  named_head : (first : Dotted L) (items : List (Dotted L)) (name : NonterminalString) → ((k : ℕ) → slice_get (map nonterminal_of (moved items)) k ≡ Some name → Named items name) →
+      (t : Bool) → has_moved first ≡ t → (k : ℕ) → slice_get (map nonterminal_of (cond t (first ∷ moved items) (moved items))) k ≡ Some name → Named (first ∷ items) name
+  named_head first items name later true is zero at = (0, first, refl, is, ap (λ o. unwrap_or o (nonterminal_of first)) at)
   named_head first items name later true is (suc k) at = named_later first items name (later k at)
   named_head first items name later false is k at = named_later first items name (later k at)
 
   -- each name is that of an item whose dot is past the start
-  name_from : (items : List (Dotted L)) (name : NonterminalString) (k : ℕ) → slice_get (map name_of (moved items)) k ≡ Some name → Named items name
+  name_from : (items : List (Dotted L)) (name : NonterminalString) (k : ℕ) → slice_get (map nonterminal_of (moved items)) k ≡ Some name → Named items name
   name_from [] name k at = cc
   name_from (item ∷ items) name k at = named_head item items name (name_from items name) (has_moved item) refl k at
 
   abbrev Listed : List (Dotted L) → Dotted L → Type 0
-  Listed items item = (k : ℕ) × (slice_get (map name_of (moved items)) k ≡ Some (name_of item))
+  Listed items item = (k : ℕ) × (slice_get (map nonterminal_of (moved items)) k ≡ Some (nonterminal_of item))
 
-  listed_later : (first : Dotted L) (items : List (Dotted L)) (item : Dotted L) → Listed items item → (t : Bool) → (k : ℕ) × (slice_get (map name_of (cond t (first ∷ moved items) (moved items))) k ≡ Some (name_of item))
+  listed_later : (first : Dotted L) (items : List (Dotted L)) (item : Dotted L) → Listed items item → (t : Bool) → (k : ℕ) × (slice_get (map nonterminal_of (cond t (first ∷ moved items) (moved items))) k ≡ Some (nonterminal_of item))
   listed_later first items item (k, at) true = (suc k, at)
   listed_later first items item (k, at) false = (k, at)
 
-  listed_here : (first item : Dotted L) (items : List (Dotted L)) → first ≡ item → (t : Bool) → t ≡ true → (k : ℕ) × (slice_get (map name_of (cond t (first ∷ moved items) (moved items))) k ≡ Some (name_of item))
-  listed_here first item items e true h = (0, ap (λ i. Some (name_of i)) e)
+  listed_here : (first item : Dotted L) (items : List (Dotted L)) → first ≡ item → (t : Bool) → t ≡ true → (k : ℕ) × (slice_get (map nonterminal_of (cond t (first ∷ moved items) (moved items))) k ≡ Some (nonterminal_of item))
+  listed_here first item items e true h = (0, ap (λ i. Some (nonterminal_of i)) e)
   listed_here first item items e false h = cc
 
   -- the name of each item whose dot is past the start is listed
@@ -206,22 +206,22 @@ module _ {L : Type 0} where
       let same : first ≡ item = ap (λ o. unwrap_or o first) at in listed_here first item items same (has_moved first) (ap has_moved same ∙ past)
   name_into (first ∷ items) (suc j) item at past = listed_later first items item (name_into items j item at past) (has_moved first)
 
-  pub all_named : (items : List (Dotted L)) (k : ℕ) (item : Dotted L) (name : NonterminalString) → slice_get items k ≡ Some item → 0 < item.index → name_of item ≡ name →
-      EachItem (λ (other : Dotted L). 0 < other.index → other.production.nonterminal ≡ name) items → AreAll (map name_of (moved items)) name
+  pub all_named : (items : List (Dotted L)) (k : ℕ) (item : Dotted L) (name : NonterminalString) → slice_get items k ≡ Some item → 0 < item.index → nonterminal_of item ≡ name →
+      EachItem (λ (other : Dotted L). 0 < other.index → other.production.nonterminal ≡ name) items → AreAll (map nonterminal_of (moved items)) name
   all_named items k item name at past same each = record {
-    some = let listed = name_into items k item at (lt-ltb _ _ past) in omega (arith, get_below (map name_of (moved items)) listed.0 (name_of item) listed.1);
+    some = let listed = name_into items k item at (lt-ltb _ _ past) in omega (arith, get_below (map nonterminal_of (moved items)) listed.0 (nonterminal_of item) listed.1);
     each = λ j other there. let from = name_from items other j there in sym from.4 ∙ each from.0 from.1 from.2 (ltb-true _ _ from.3);
   }
 
-  pub each_named : (items : List (Dotted L)) (k : ℕ) (item : Dotted L) (name : NonterminalString) → slice_get items k ≡ Some item → 0 < item.index → name_of item ≡ name →
-      (all : NonterminalString) → AreAll (map name_of (moved items)) all → EachItem (λ (other : Dotted L). 0 < other.index → other.production.nonterminal ≡ name) items
+  pub each_named : (items : List (Dotted L)) (k : ℕ) (item : Dotted L) (name : NonterminalString) → slice_get items k ≡ Some item → 0 < item.index → nonterminal_of item ≡ name →
+      (all : NonterminalString) → AreAll (map nonterminal_of (moved items)) all → EachItem (λ (other : Dotted L). 0 < other.index → other.production.nonterminal ≡ name) items
   each_named items k item name at past same all h j other there moved_too =
       let here = name_into items k item at (lt-ltb _ _ past) in
       let listed = name_into items j other there (lt-ltb _ _ moved_too) in
-      h.each listed.0 (name_of other) listed.1 ∙ sym (h.each here.0 (name_of item) here.1) ∙ same
+      h.each listed.0 (nonterminal_of other) listed.1 ∙ sym (h.each here.0 (nonterminal_of item) here.1) ∙ same
 
-  pub none_named : (items : List (Dotted L)) → EachItem (λ (item : Dotted L). item.index ≡ 0) items → (name : NonterminalString) → AreAll (map name_of (moved items)) name → ⊥
+  pub none_named : (items : List (Dotted L)) → EachItem (λ (item : Dotted L). item.index ≡ 0) items → (name : NonterminalString) → AreAll (map nonterminal_of (moved items)) name → ⊥
   none_named items each name all =
-      let first = first_of (map name_of (moved items)) all.some in
+      let first = first_of (map nonterminal_of (moved items)) all.some in
       let from = name_from items first.0 0 first.1 in
       omega (arith, each from.0 from.1 from.2, ltb-true _ _ from.3)

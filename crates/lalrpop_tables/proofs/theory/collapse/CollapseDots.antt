@@ -7,7 +7,7 @@ use Rattle.lalrpop_tables.specs.Words.{dots_in, IsCollapsed}
 use Rattle.lalrpop_tables.proofs.Types.{Production, State, Symbol}
 use Rattle.lalrpop_collections.proofs.theory.lists.Lists.{some_of_map}
 use Rattle.lalrpop_collections.proofs.theory.lists.Ascending.{ascending_same}
-use Rattle.lalrpop_states.specs.closures.Closure.{dotted_of}
+use Rattle.lalrpop_states.specs.states.Items.{dotted_of}
 use Rattle.lalrpop_states.proofs.theory.grammars.AscendingItems.{precedes_asymmetric}
 use Rattle.lalrpop_collections.proofs.theory.lists.Places.{filled}
 

@@ -5,7 +5,7 @@ use Rattle.std.proofs.lemmas.Bool.{cases_lt}
 use Rattle.lalrpop_base.specs.Words.{Bits, Valid, ValidToken, Rules, HasItemToken, AreRenumbered}
 use Rattle.lalrpop_construction.specs.Words.{IsStateFor, HaveSameContents, AreSomeCanonicalStates}
 use Rattle.lalrpop_tables.proofs.Types.{NonterminalString, State, Symbol, TerminalString}
-use Rattle.lalrpop_states.specs.closures.Closure.{dotted_of}
+use Rattle.lalrpop_states.specs.states.Items.{dotted_of}
 use Rattle.lalrpop_tables.proofs.theory.renumbering.RenumberedTables.{state_before}
 use Rattle.lalrpop_collections.proofs.theory.lists.BothFacts.{turned_both}
 

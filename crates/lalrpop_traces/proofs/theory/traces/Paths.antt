@@ -40,12 +40,12 @@ first_if b path more e = let P : Bool → Type 0 = λ x. Contains (cond x (path 
 
 module _ (g : TraceGraph) where
   -- the edges go on after an edge to the first item, and pass no node that was passed before
-  abbrev pub GoesOn : List ℕ → ℕ → List ℕ → Type 0
-  GoesOn taken k [] = is_item (source g k) ≡ true
-  GoesOn taken k (j ∷ rest) = (is_item (source g k) ≡ false) × (comes_again g k taken ≡ false) × Contains (edge_numbers_to_source g k) j × GoesOn (k ∷ taken) j rest
+  abbrev pub IsContinuedBy : List ℕ → ℕ → List ℕ → Type 0
+  IsContinuedBy taken k [] = is_item (source g k) ≡ true
+  IsContinuedBy taken k (j ∷ rest) = (is_item (source g k) ≡ false) × (comes_again g k taken ≡ false) × Contains (edge_numbers_to_source g k) j × IsContinuedBy (k ∷ taken) j rest
 
   -- each path that is listed goes on so
-  pub over_sound : (n : ℕ) (taken : List ℕ) (k : ℕ) (p : List ℕ) → Contains (over g n taken k) p → (rest : List ℕ) × (p ≡ reverse (k ∷ taken) ++ rest) × GoesOn taken k rest
+  pub over_sound : (n : ℕ) (taken : List ℕ) (k : ℕ) (p : List ℕ) → Contains (over g n taken k) p → (rest : List ℕ) × (p ≡ reverse (k ∷ taken) ++ rest) × IsContinuedBy taken k rest
   over_sound zero taken k p c = let h = one_if (is_item (source g k)) (reverse (k ∷ taken)) p c in ([], h.1 ∙ sym (append-nil (reverse (k ∷ taken))), h.0)
   over_sound (suc n) taken k p c = elim (one_or (is_item (source g k)) (comes_again g k taken) (reverse (k ∷ taken)) (flat_map (over g n (k ∷ taken)) (reverse (edge_numbers_to_source g k))) p c) [
     | inl h ↦ ([], h.1 ∙ sym (append-nil (reverse (k ∷ taken))), h.0)
@@ -56,7 +56,7 @@ module _ (g : TraceGraph) where
   ]
 
   -- each path that goes on so, and passes no more nonterminals than are counted, is listed
-  pub over_has : (n : ℕ) (taken : List ℕ) (k : ℕ) (rest : List ℕ) → length rest ≤ n → GoesOn taken k rest → Contains (over g n taken k) (reverse (k ∷ taken) ++ rest)
+  pub over_has : (n : ℕ) (taken : List ℕ) (k : ℕ) (rest : List ℕ) → length rest ≤ n → IsContinuedBy taken k rest → Contains (over g n taken k) (reverse (k ∷ taken) ++ rest)
   over_has zero taken k [] l h = subst (Contains (over g zero taken k)) (sym (append-nil (reverse (k ∷ taken)))) (first_if (is_item (source g k)) (reverse (k ∷ taken)) [] h)
   over_has (suc n) taken k [] l h = subst (Contains (over g (suc n) taken k)) (sym (append-nil (reverse (k ∷ taken)))) (first_if (is_item (source g k)) (reverse (k ∷ taken)) _ h)
   over_has zero taken k (j ∷ rest) l h = absurd (omega (arith, l))

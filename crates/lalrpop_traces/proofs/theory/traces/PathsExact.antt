@@ -11,7 +11,7 @@ use Rattle.lalrpop_collections.proofs.theory.lists.Members.{pigeonhole, of_flat,
 use Rattle.lalrpop_collections.proofs.theory.lists.Places.{apart_from_differ}
 use Rattle.lalrpop_collections.proofs.theory.lists.Apart.{Apart, apart_from, apart_to}
 use Rattle.lalrpop_traces.proofs.theory.traces.PathLists.{apart_reverse, apart_flat_map}
-use Rattle.lalrpop_traces.proofs.theory.traces.Paths.{GoesOn, over_sound, over_has, over_parts, over_apart}
+use Rattle.lalrpop_traces.proofs.theory.traces.Paths.{IsContinuedBy, over_sound, over_has, over_parts, over_apart}
 use Rattle.lalrpop_traces.proofs.theory.traces.TraceGraphs.{place_sound, place_complete}
 use Rattle.lalrpop_traces.specs.contracts.trace.node.TraceGraphNodeEq.TheImpl as node_equality
 use Rattle.lalrpop_traces.specs.contracts.trace.node.TraceGraphNodeExact.TheImpl as node_exactly
@@ -140,12 +140,12 @@ module _ (g : TraceGraph) (nodes : List TraceGraphNode) (listed : IsListed g nod
   none_again false h = refl
 
   -- edges that go on are a path backwards
-  goes : (here : Option TraceGraphNode) (taken : List ℕ) (k : ℕ) (rest : List ℕ) → target g k ≡ here → GoesOn g taken k rest → GoesBack g here (k ∷ rest)
+  goes : (here : Option TraceGraphNode) (taken : List ℕ) (k : ℕ) (rest : List ℕ) → target g k ≡ here → IsContinuedBy g taken k rest → GoesBack g here (k ∷ rest)
   goes here taken k [] t h = (t, h)
   goes here taken k (j ∷ rest) t h = (t, h.0, goes (source g k) (k ∷ taken) j rest (leads_from k j h.2) h.3)
 
   -- it passes nodes of the graph, none twice, and none that was passed before
-  passes : (taken : List ℕ) (k : ℕ) (rest : List ℕ) → GoesOn g taken k rest → Apart (passed g (k ∷ rest)) × ((x : Option TraceGraphNode) → Contains (passed g (k ∷ rest)) x → Contains (map (source g) taken) x → ⊥)
+  passes : (taken : List ℕ) (k : ℕ) (rest : List ℕ) → IsContinuedBy g taken k rest → Apart (passed g (k ∷ rest)) × ((x : Option TraceGraphNode) → Contains (passed g (k ∷ rest)) x → Contains (map (source g) taken) x → ⊥)
   passes taken k [] h = (tt, λ x c d. contains-nil c)
   passes taken k (j ∷ rest) h =
       let more = passes (k ∷ taken) j rest h.3 in
@@ -158,7 +158,7 @@ module _ (g : TraceGraph) (nodes : List TraceGraphNode) (listed : IsListed g nod
       )
 
   -- a path backwards is such edges
-  goes_on : (here : TraceGraphNode) (taken : List ℕ) (k : ℕ) (rest : List ℕ) → GoesBack g (Some here) (k ∷ rest) → Apart (passed g (k ∷ rest)) → ((x : Option TraceGraphNode) → Contains (passed g (k ∷ rest)) x → Contains (map (source g) taken) x → ⊥) → GoesOn g taken k rest
+  goes_on : (here : TraceGraphNode) (taken : List ℕ) (k : ℕ) (rest : List ℕ) → GoesBack g (Some here) (k ∷ rest) → Apart (passed g (k ∷ rest)) → ((x : Option TraceGraphNode) → Contains (passed g (k ∷ rest)) x → Contains (map (source g) taken) x → ⊥) → IsContinuedBy g taken k rest
   goes_on here taken k [] b a d = b.1
   goes_on here taken k (j ∷ rest) b a d =
       let s = has_source (edge_of g k) here b.0 in
@@ -183,7 +183,7 @@ module _ (g : TraceGraph) (nodes : List TraceGraphNode) (listed : IsListed g nod
   passed_length k [] = refl
   passed_length k (j ∷ rest) = ap suc (passed_length j rest)
 
-  passed_nodes : (taken : List ℕ) (k : ℕ) (rest : List ℕ) → GoesOn g taken k rest → (x : Option TraceGraphNode) → Contains (passed g (k ∷ rest)) x → Contains (map Some nodes) x
+  passed_nodes : (taken : List ℕ) (k : ℕ) (rest : List ℕ) → IsContinuedBy g taken k rest → (x : Option TraceGraphNode) → Contains (passed g (k ∷ rest)) x → Contains (map Some nodes) x
   passed_nodes taken k [] h x c = absurd (contains-nil c)
   passed_nodes taken k (j ∷ rest) h x c =
       let s = numbers_there g (edge_of g k) j h.2 in
@@ -196,7 +196,7 @@ module _ (g : TraceGraph) (nodes : List TraceGraphNode) (listed : IsListed g nod
   some_length [] = refl
   some_length (x ∷ xs) = ap suc (some_length xs)
 
-  few : (taken : List ℕ) (k : ℕ) (rest : List ℕ) → GoesOn g taken k rest → length rest ≤ node_count g
+  few : (taken : List ℕ) (k : ℕ) (rest : List ℕ) → IsContinuedBy g taken k rest → length rest ≤ node_count g
   few taken k rest h =
       let apart = apart_from_differ (passed g (k ∷ rest)) (apart_to (passed g (k ∷ rest)) (passes taken k rest h).0) in
       omega (arith, pigeonhole (passed g (k ∷ rest)) (map Some nodes) apart (passed_nodes taken k rest h), passed_length k rest, some_length nodes, listed.count)

@@ -6,7 +6,7 @@ use mathlib.Core.Bool.{true≢false}
 use Rattle.lalrpop_traces.proofs.Types.{Production, Symbol}
 use Rattle.lalrpop_grammar.specs.declared.repr.Symbol.TheVariants.{Nonterminal as NonterminalOf}
 use Rattle.lalrpop_collections.proofs.theory.lists.Lists.{same_some, some≢none}
-use Rattle.lalrpop_traces.specs.Words.{edge_of, edge_prefix, edge_cursor, edge_suffix, nonterminal_of_node, cursor_list, place_of, prefixes, suffixes, place, spelled, example_reductions}
+use Rattle.lalrpop_traces.specs.Words.{edge_of, edge_prefix, edge_cursor, edge_suffix, nonterminal_of_node, cursor_list, place_of, prefixes, suffixes, example_place, spelled, example_reductions}
 use Rattle.lalrpop_traces.specs.Words.{reduced_at, IsExampleOf, between, IsRightSide, ReduceAround, ReduceAll, SpellsDerivation, CarryRightSides, source_of}
 use Rattle.lalrpop_traces.specs.Words.{target_node, source, is_item, GoesBack, IsPath}
 use Rattle.lalrpop_traces.specs.traces.Examples.{read}
@@ -174,7 +174,7 @@ module _ (g : TraceGraph) (productions : List Production) (carry : CarryRightSid
       let p = edge_prefix (edge_of g k) in
       let q = edge_suffix (edge_of g k) in
       let r : Reduction = reduction rest e in
-      let middle = place g (k ∷ rest) in
+      let middle = example_place g (k ∷ rest) in
       let part : between all r.start r.end ≡ p ++ (cursor_list (edge_cursor (edge_of g k)) ++ q) = whole_part a p q d middle all r.start r.end is refl refl ∙ ap (λ xs. p ++ (xs ++ q)) (read_place (edge_cursor (edge_of g k)) p) in
       let R : Option TraceGraphEdge → Type 0 = λ o. ReduceAll productions all (reduced_at o (length a) (length all - length d) ++ example_reductions g (length all) rest) in
       let within : r.start ≤ r.end = omega (arith, whole_length a p q d middle all is) in
@@ -186,8 +186,8 @@ module _ (g : TraceGraph) (productions : List Production) (carry : CarryRightSid
   all_reduce start (k ∷ (j ∷ rest)) b is =
       let l = led (edge_of g k) start b.0 in
       innermost_one k (j ∷ rest) l.0 l.1 is (
-      around (reduction (j ∷ rest) l.0) j rest (map SymbolOf (edge_prefix (edge_of g k)) ++ (place g (k ∷ (j ∷ rest)) ++ map SymbolOf (edge_suffix (edge_of g k)))) (next_back start k j rest l.0 l.1 b) refl refl
-      (is ∙ outer_form (prefixes g (j ∷ rest)) (edge_prefix (edge_of g k)) (edge_suffix (edge_of g k)) (suffixes g (j ∷ rest)) (place g (k ∷ (j ∷ rest))))
+      around (reduction (j ∷ rest) l.0) j rest (map SymbolOf (edge_prefix (edge_of g k)) ++ (example_place g (k ∷ (j ∷ rest)) ++ map SymbolOf (edge_suffix (edge_of g k)))) (next_back start k j rest l.0 l.1 b) refl refl
+      (is ∙ outer_form (prefixes g (j ∷ rest)) (edge_prefix (edge_of g k)) (edge_suffix (edge_of g k)) (suffixes g (j ∷ rest)) (example_place g (k ∷ (j ∷ rest))))
       )
 
 -- the example of a path spells a derivation

@@ -15,9 +15,9 @@ use Rattle.lalrpop_collections.specs.Words.{Bits, AllDiffer, HaveSame}
 use Rattle.lalrpop_states.specs.Words.{number_of, Dotted, AreClosure, LeadsBy, LeadsFrom, IsTarget, with_dot, Lists, LeadsOn, finished}
 use Rattle.lalrpop_grammar.specs.contracts.repr.TerminalStringOrd.TheImpl as terminal_ord
 use Rattle.lr1_theory.proofs.Types.{Grammar, Nil, Production, State, StateIndex, Symbol}
-use Rattle.lalrpop_states.specs.closures.Closure.{dotted_of}
+use Rattle.lalrpop_states.specs.states.Items.{dots, dotted_of}
 use Rattle.lalrpop_collections.specs.lists.CheckSets.{IsAdded}
-use Rattle.lalrpop_states.specs.states.CheckStates.{productions_of_reductions, dots, target_of, AreListed}
+use Rattle.lalrpop_states.specs.states.CheckStates.{productions_of_reductions, target_of, AreListed}
 use Rattle.lalrpop_collections.proofs.theory.lists.CheckSets.{inserted}
 use Rattle.std.specs.declared.cmp.Ordering.{Ordering}
 use Rattle.std.proofs.lemmas.List.Elements.{Contains-append_left, Contains-append_right, Contains-append_cases}

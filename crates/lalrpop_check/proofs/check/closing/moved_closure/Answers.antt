@@ -1,6 +1,6 @@
 use Rattle.std.proofs.lemmas.Result.{IfOk-weaker}
 use Rattle.std.proofs.Common.{map}
-use Rattle.lalrpop_states.specs.closures.Closure.{dotted_of}
+use Rattle.lalrpop_states.specs.states.Items.{dotted_of}
 use Rattle.lalrpop_base.specs.Words.{IsMovedIn, IsMovedOf}
 use Rattle.lalrpop_check.proofs.theory.check.CheckClosing.{Closure-of}
 use Rattle.lalrpop_collections.proofs.theory.collections.Walks.{All-wait}

@@ -1,5 +1,5 @@
 use Rattle.std.proofs.Common.{◌∙◌, length, arith, eqb-true, sym}
-use Rattle.lalrpop_states.specs.states.CheckStates.{dots}
+use Rattle.lalrpop_states.specs.states.Items.{dots}
 use Rattle.lalrpop_base.specs.Words.{IsMovedIn}
 use Rattle.lr1_theory.proofs.theory.states.CheckStates.{same_closure, has_number, some_of}
 use Rattle.lalrpop_check.proofs.check.states.is_right_target.Goals as goal
