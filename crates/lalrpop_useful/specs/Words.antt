@@ -1,5 +1,6 @@
 -- The definitions that the contracts of this crate name, each with the file that has it.
 pub use Rattle.lalrpop_useful.specs.useful.Cycles.{AddsCyclic, DerivesAlone, IsAlone, IsAloneAt, IsAloneOn, IsCyclic}
+pub use Rattle.lalrpop_useful.specs.useful.KnownCycles.{AddsIf, AreSettledBut, IsKnown, IsNext, Meet}
 pub use Rattle.lalrpop_useful.specs.useful.Productive.{AddsUser, AreNonterminalsAmong, AreProductive, AreTried, HasUsers, HasWaiting, IsProductive, IsTried}
 pub use Rattle.lalrpop_grammar.specs.grammars.Entries.{UserMap}
 pub use Rattle.lalrpop_useful.specs.useful.Productive.{came, left}

@@ -4,53 +4,56 @@ ghost use Rattle.lalrpop_collections.specs.lists.Walks.{Visits};
 ghost use Rattle.lalrpop_grammar.specs.grammars.Grammar.{IsNullable};
 ghost use Rattle.lalrpop_grammar.specs.grammars.WellFormed.{IsWellFormed, productions, rules_of};
 ghost use Rattle.lalrpop_grammar.specs.declared.repr.NonterminalString.{NonterminalString};
-ghost use Rattle.lalrpop_useful.specs.useful.Cycles.{AddsCyclic, DerivesAlone, IsAlone, IsAloneAt, IsAloneOn, IsCyclic};
+ghost use Rattle.lalrpop_useful.specs.useful.Cycles.{DerivesAlone, IsAlone, IsAloneAt, IsAloneOn, IsCyclic};
+ghost use Rattle.lalrpop_useful.specs.useful.KnownCycles.{IsKnown};
 
+mod finished;
+mod known;
+
+use self::finished::finished_names;
+use self::known::{Known, decide};
 use crate::names::NameSet;
 use crate::reachable::visit;
 use lalrpop_base::first::FirstSets;
 use lalrpop_base::memory::OutOfMemory;
 use lalrpop_base::repr::grammar::Grammar;
 use lalrpop_base::repr::{NonterminalString, Production, Symbol};
-use lalrpop_collections::collections::sets::{add_key, has_key};
 use lalrpop_collections::collections::walk::Walk;
 use std::alloc::Global;
-use std::collections::BTreeSet;
 
-/// The nonterminals that derive themselves in at least one step. From each nonterminal a walk is
-/// made over the nonterminals that it derives alone. `OutOfMemory` if an allocation fails.
+/// The nonterminals that derive themselves in at least one step. A walk over the nonterminals that one
+/// derives alone is made only if it leads into a ring that is not known. `OutOfMemory` if an
+/// allocation fails.
 pub fn cyclic_names(alloc: Global, grammar: &Grammar) -> Result<NameSet, OutOfMemory>
     requires { IsWellFormed grammar.now }
     ensures cyclic { IfOk result (λ names. (a : NonterminalString) →
         Contains names.keys a ↔ IsCyclic (productions grammar.now) a) }
 {
     let sets = FirstSets::new(alloc, grammar)?;
-    let mut names = BTreeSet::new(alloc);
+    let mut known = known_in_order(alloc, grammar, &sets)?;
     for (name, _entry) in grammar.nonterminals.iter() {
-        add_cyclic(alloc, grammar, &sets, name, &mut names)?;
+        decide(alloc, grammar, &sets, name, &mut known)?;
     }
-    Ok(names)
+    let Known { cyclic, .. } = known;
+    Ok(cyclic)
 }
 
-// Adds a nonterminal, if it is cyclic.
-fn add_cyclic(
+// What is known after one nonterminal after another, so that most need no walk.
+fn known_in_order(
     alloc: Global,
     grammar: &Grammar,
     sets: &FirstSets<'_>,
-    name: &NonterminalString,
-    names: &mut NameSet,
-) -> Result<(), OutOfMemory>
+) -> Result<Known, OutOfMemory>
     requires well_formed { IsWellFormed grammar.now }
     requires sets { sets.now ≡ rules_of grammar.now }
-    ensures { OnOk result
-        (AddsCyclic (productions grammar.now) name.now names.old.keys names.new.keys) }
+    ensures { IfOk result (λ known. IsKnown grammar.now known) }
 {
-    let derived = derived_alone(alloc, grammar, sets, name)?;
-    if !has_key(&derived, name) {
-        return Ok(());
+    let mut known = Known::new(alloc);
+    let order = finished_names(alloc, grammar, sets)?;
+    for name in &order {
+        decide(alloc, grammar, sets, name, &mut known)?;
     }
-    let _added = add_key(names, name.clone(alloc)?)?;
-    Ok(())
+    Ok(known)
 }
 
 // The nonterminals that a nonterminal derives alone.

@@ -1,5 +1,6 @@
 -- Useful and doubtful parts of a grammar.
 pub mod Cycles
+pub mod KnownCycles
 pub mod Productive
 pub mod Reachable
 pub mod Repeats

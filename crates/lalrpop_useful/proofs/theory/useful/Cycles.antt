@@ -6,7 +6,6 @@ use mathlib.Core.List.{cons≢nil, head-eq_of_cons-eq, tail-eq_of_cons-eq}
 use Rattle.std.proofs.lemmas.Option.{slice_get_within}
 use Rattle.std.proofs.lemmas.List.Elements.{Contains-append_left, Contains-append_cases, Contains-push, Contains-push_cases}
 use Rattle.lalrpop_collections.specs.Words.{Visits}
-use Rattle.lalrpop_collections.specs.lists.CheckSets.{IsAdded}
 use Rattle.lalrpop_collections.proofs.theory.collections.Walks.{IsTraversing, Traversing-end, Traversing-smaller, Traversing-start, Traversing-step, All-wait, visited_such, Visits-none, Visits-same, Visits-then}
 use Rattle.lalrpop_collections.proofs.theory.lists.Lists.{contains_place, same_some, some≢none}
 use Rattle.lalrpop_collections.proofs.theory.lists.Members.{Contains-none, contains_head}
@@ -85,13 +84,13 @@ Nullable-not g l k x at not d =
     not (nullable_parts (x ∷ []) (drop (suc k) l) parts.1).0
 
 -- what is alone in a list is derived from it
-alone_derives : {g : List Production} (l : List Symbol) (b : NonterminalString) → IsAlone g l b → Derives g l (Nonterminal b ∷ [])
+pub alone_derives : {g : List Production} (l : List Symbol) (b : NonterminalString) → IsAlone g l b → Derives g l (Nonterminal b ∷ [])
 alone_derives l b h =
     Derives-from (sym (cut_place l h.0 (Nonterminal b) h.1.0))
     (Derives-append {m = []} h.1.1 (Derives-append {k = Nonterminal b ∷ []} {m = Nonterminal b ∷ []} as_it_is h.1.2))
 
 -- what is between nullable parts is alone
-alone_between : {g : List Production} (l u v : List Symbol) (b : NonterminalString) → l ≡ u ++ Nonterminal b ∷ v → IsNullable g u → IsNullable g v → IsAlone g l b
+pub alone_between : {g : List Production} (l u v : List Symbol) (b : NonterminalString) → l ≡ u ++ Nonterminal b ∷ v → IsNullable g u → IsNullable g v → IsAlone g l b
 alone_between {g} l u v b e m n = subst (λ k. IsAlone g k b) (sym e) (length u, (at_cut u v (Nonterminal b), Derives-from (sym (take_cut u v (Nonterminal b))) m, Derives-from (sym (drop_cut u v (Nonterminal b))) n))
 
 -- ---- names that have, with each of them, what is alone on its right sides
@@ -120,7 +119,7 @@ module _ (g : List Production) (names : List NonterminalString) (closed : (p : P
       first (in_second w a b) = second w b (in_part p.symbols after w v (Nonterminal c) a)
 
   -- so what a list derives alone is one of them: by induction on the derivation
-  derived_between : {l m : List Symbol} (b : NonterminalString) → Derives g l m → m ≡ Nonterminal b ∷ [] → HasBetween l → Contains names b
+  pub derived_between : {l m : List Symbol} (b : NonterminalString) → Derives g l m → m ≡ Nonterminal b ∷ [] → HasBetween l → Contains names b
   derived_between b as_it_is e h = h [] [] b e as_it_is as_it_is
   derived_between b (replace before after p among d) e h = derived_between b d e (between_after before after p among h)
 
@@ -234,16 +233,6 @@ module _ (g : Grammar) (name : NonterminalString) where
   )
 
 -- ---- one nonterminal after another
-module _ (g : List Production) (a : NonterminalString) (old new : List NonterminalString) where
-  pub Cyclic-added : IsAdded a old new → IsCyclic g a → AddsCyclic g a old new
-  Cyclic-added added cyclic b = (
-    λ c. elim (added.from b c) [ inl o ↦ inl o | inr e ↦ inr (e, subst (IsCyclic g) e cyclic) ],
-    λ h. elim h [ inl o ↦ added.kept b o | inr n ↦ subst (Contains new) n.0 added.there ],
-  )
-
-pub Cyclic-not : (g : List Production) (a : NonterminalString) (names : List NonterminalString) → (IsCyclic g a → ⊥) → AddsCyclic g a names names
-Cyclic-not g a names none b = (λ c. inl c, λ h. elim h [ inl o ↦ o | inr n ↦ absurd (none (subst (IsCyclic g) (sym n.0) n.1)) ])
-
 abbrev Entry : Type 0
 Entry = NonterminalString × NonterminalData
 
@@ -256,10 +245,10 @@ module _ (terminals : List TerminalString) (actions : ℕ) (g : List Production)
     pub right : (b : NonterminalString) → Contains names b → IsCyclic g b
     pub all : (p : Production) → Contains g p → IsCyclic g p.nonterminal → Contains names p.nonterminal ⊎ Contains (flat_map listed rest) p
 
-  pub Collecting-start : (whole : List Entry) (names : List NonterminalString) → AreWellFormedEntries terminals actions whole → flat_map listed whole ≡ g → names ≡ [] → IsCollecting whole names
-  Collecting-start whole names formed same none = record {
+  pub Collecting-start : (whole : List Entry) (names : List NonterminalString) → AreWellFormedEntries terminals actions whole → flat_map listed whole ≡ g → ((b : NonterminalString) → Contains names b → IsCyclic g b) → IsCollecting whole names
+  Collecting-start whole names formed same right = record {
     formed = formed;
-    right = λ b c. absurd (Contains-none b (subst (λ (ns : List NonterminalString). Contains ns b) none c));
+    right = right;
     all = λ p among cyclic. inr (subst (λ (ps : List Production). Contains ps p) (sym same) among);
   }
 
