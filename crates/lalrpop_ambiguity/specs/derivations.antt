@@ -2,4 +2,6 @@
 pub mod Derivations
 pub mod DerivationSteps
 pub mod EqualDerivations
+pub mod MarkedTexts
+pub mod Moves
 pub mod Represented

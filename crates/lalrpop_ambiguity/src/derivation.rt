@@ -2,17 +2,22 @@
 //! the comparison does so, if an allocation fails.
 mod comparison;
 mod copies;
+mod marked;
+mod moves;
 mod text;
 mod walk;
 
-ghost use Rattle.std.specs.Prelude.{◌≡◌, ◌↔◌, ◌<◌, [], ◌∷◌, ◌++◌, map, reverse, Some, true, IsTrue, IsFalse, IfOk, OnOk};
+ghost use Rattle.std.specs.Prelude.{◌≡◌, ◌↔◌, ◌<◌, [], ◌∷◌, ◌++◌, map, reverse, Some, true, string_bytes, IsTrue, IsFalse, IfOk, OnOk};
 ghost use Rattle.lalrpop_ambiguity.specs.derivations.Derivations.{beside, leaves, no_trees, nodes, trees_of};
+ghost use Rattle.lalrpop_ambiguity.specs.derivations.MarkedTexts.{marked_text};
 ghost use Rattle.lalrpop_ambiguity.specs.derivations.Represented.{symbols_at, tree_nodes, tree_of, tree_text, trees_at};
 
 pub(crate) use comparison::are_equal;
 use copies::clone_node;
 use lalrpop_base::memory::OutOfMemory;
 use lalrpop_base::repr::{Production, Symbol};
+use marked::marked_text;
+pub(crate) use moves::common_moves;
 use std::alloc::Global;
 use std::{fmt, mem};
 use text::show_tree;
@@ -48,6 +53,16 @@ impl<'grammar> Derivation<'grammar> {
             Derivation::Node(production, children) => clone_node(alloc, *production, children),
             Derivation::Leaf(symbol) => Ok(Derivation::Leaf(symbol.clone(alloc)?)),
         }
+    }
+
+    /// The text of the tree, with the mark `(*)` after so many moves of a bottom-up parser that makes
+    /// it. A move reads a leaf, or reduces by the production of a node. The mark is right before the
+    /// next move. The error is `OutOfMemory` if an allocation fails.
+    pub fn marked_text(&self, alloc: Global, moves: usize) -> Result<String, OutOfMemory>
+        ensures text { IfOk result
+            (λ text. string_bytes text ≡ marked_text moves (tree_of self.now)) }
+    {
+        marked_text(alloc, self, moves)
     }
 }
 

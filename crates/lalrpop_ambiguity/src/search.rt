@@ -1,32 +1,34 @@
 //! The search for witnesses of ambiguity.
 mod frames;
 mod links;
+mod missing;
 mod moves;
 mod pending;
 mod replay;
 
-ghost use Rattle.std.specs.Prelude.{IfOk, IfSome};
+ghost use Rattle.std.specs.Prelude.{◌≡◌, IfOk, IfSome};
 ghost use Rattle.lalrpop_grammar.specs.grammars.WellFormed.{IsWellFormed, productions};
 ghost use Rattle.lalrpop_ambiguity.specs.derivations.Represented.{tree_of};
 ghost use Rattle.lalrpop_ambiguity.specs.witnesses.Witnesses.{IsWitness};
-ghost use Rattle.lalrpop_ambiguity.specs.witnesses.Searches.{IfFound};
+ghost use Rattle.lalrpop_ambiguity.specs.witnesses.Searches.{AreCommonMoves, IfFound};
 
 use crate::witness::{Ambiguity, is_witness};
 use frames::{Frame, Shape, is_whole};
 use lalrpop_base::exact::equal;
+use lalrpop_base::first::FirstSets;
 use lalrpop_base::lr1_core::state::{Action, Conflict, State};
 use lalrpop_base::memory::OutOfMemory;
 use lalrpop_base::repr::grammar::Grammar;
 use lalrpop_base::repr::{Production, Symbol, TerminalString};
 use links::links_of;
-use moves::{Ground, Taken, add_moves};
+use moves::{Ground, Taken, add_moves, missing_cost};
 use pending::{Pending, Step, Waiting};
 use replay::replayed;
 use std::alloc::Global;
 use std::collections::BTreeSet;
 
 /// The result of a search: a witness, or the reason why there is none. The search was exhausted, or
-/// it was cut, since its steps were used up.
+/// it was cut, since its steps or its memory were used up.
 #[derive(Debug, Drop)]
 pub enum Search<'grammar> {
     Found(Ambiguity<'grammar>),
@@ -34,12 +36,84 @@ pub enum Search<'grammar> {
     Cut,
 }
 
-/// Searches a witness of ambiguity for a conflict of states: two derivations from one nonterminal
-/// that have the same symbols before the conflict, and then take its two actions. The cheapest is
-/// returned first. Each symbol costs 1, and each production around or within a derivation 50. A step
-/// tries one pair of derivations, and keeps at most as many others as a state has items, a
-/// nonterminal has productions, or a state has states before it. So memory is bounded by `steps`.
-/// The error is `OutOfMemory` if an allocation fails.
+impl<'grammar> Search<'grammar> {
+    /// The number of moves that both derivations of a witness have in common, or 0 if there is no
+    /// witness. The error is `OutOfMemory` if an allocation fails.
+    pub fn common_moves(&self, alloc: Global) -> Result<usize, OutOfMemory>
+        ensures common { IfOk result (λ count. AreCommonMoves count self.now) }
+    {
+        match self {
+            Search::Found(found) => found.common_moves(alloc),
+            Search::Exhausted => Ok(0),
+            Search::Cut => Ok(0),
+        }
+    }
+}
+
+/// Searches witnesses of ambiguity for the conflicts of states.
+#[derive(Drop)]
+pub struct AmbiguityFinder<'a, 'grammar, L> {
+    ground: Ground<'a, 'grammar, L>,
+}
+
+impl<'a, 'grammar, L> AmbiguityFinder<'a, 'grammar, L> {
+    /// A finder for all conflicts of the states of a grammar. The error is `OutOfMemory` if an
+    /// allocation fails.
+    pub fn new(
+        alloc: Global,
+        grammar: &'grammar Grammar,
+        states: &'a [State<'grammar, L>],
+    ) -> Result<Self, OutOfMemory>
+        requires { IsWellFormed grammar.now }
+        ensures grammar { IfOk result (λ finder. finder.ground.grammar.now ≡ grammar.now) }
+    {
+        let first_sets = FirstSets::new(alloc, grammar)?;
+        let links = links_of(alloc, states)?;
+        Ok(AmbiguityFinder {
+            ground: Ground {
+                grammar,
+                first_sets,
+                states,
+                links,
+            },
+        })
+    }
+
+    /// Searches a witness of ambiguity for a conflict of the states: two derivations from one
+    /// nonterminal that have the same symbols before the conflict, and then take its two actions.
+    /// The cheapest is returned first. Each symbol costs 1, and each production around or within a
+    /// derivation 50. A step tries one pair of derivations. Pairs of 2,000,000 productions are kept.
+    /// Once there are more, others are left out. The error is `OutOfMemory` if an allocation fails.
+    pub fn find(
+        &self,
+        alloc: Global,
+        conflict: &Conflict<'grammar, L>,
+        steps: usize,
+    ) -> Result<Search<'grammar>, OutOfMemory>
+        requires { IsWellFormed self.now.ground.grammar.now }
+        ensures witness { IfOk result (IfFound (λ found. IsWitness
+            (productions self.now.ground.grammar.now) (tree_of found.left) (tree_of found.right))) }
+    {
+        let mut waiting = Waiting::new(alloc);
+        begin(alloc, &self.ground, conflict, &mut waiting)?;
+        let mut tried = Tried::new(alloc);
+        for _ in 0..steps {
+            let Some(pending) = waiting.take() else {
+                break;
+            };
+            if let Some(found) = tried.try_one(alloc, &self.ground, pending, &mut waiting)? {
+                return Ok(Search::Found(found));
+            }
+        }
+        if waiting.is_exhausted() {
+            return Ok(Search::Exhausted);
+        }
+        Ok(Search::Cut)
+    }
+}
+
+/// Searches a witness of ambiguity for one conflict of the states of a grammar, as
+/// `AmbiguityFinder::find` does. The error is `OutOfMemory` if an allocation fails.
 pub fn find_ambiguity<'grammar, L>(
     alloc: Global,
     grammar: &'grammar Grammar,
@@ -51,27 +125,8 @@ pub fn find_ambiguity<'grammar, L>(
     ensures witness { IfOk result (IfFound (λ found.
         IsWitness (productions grammar.now) (tree_of found.left) (tree_of found.right))) }
 {
-    let links = links_of(alloc, states)?;
-    let ground = Ground {
-        grammar,
-        states,
-        links,
-    };
-    let mut waiting = Waiting::new(alloc);
-    begin(alloc, &ground, conflict, &mut waiting)?;
-    let mut tried = Tried::new(alloc);
-    for _ in 0..steps {
-        let Some(pending) = waiting.take() else {
-            return Ok(Search::Exhausted);
-        };
-        if let Some(found) = tried.try_one(alloc, &ground, pending, &mut waiting)? {
-            return Ok(Search::Found(found));
-        }
-    }
-    if waiting.is_empty() {
-        return Ok(Search::Exhausted);
-    }
-    Ok(Search::Cut)
+    let finder = AmbiguityFinder::new(alloc, grammar, states)?;
+    finder.find(alloc, conflict, steps)
 }
 
 // Adds the shapes in which the search begins. On the left is the reduction of the conflict. On the
@@ -86,7 +141,7 @@ fn begin<'grammar, L>(
     let left = finished(conflict.production);
     match &conflict.action {
         Action::Reduce(production) => {
-            begin_at(alloc, state, left, finished(*production), waiting)
+            begin_at(alloc, ground, state, left, finished(*production), waiting)
         }
         Action::Shift(terminal, _target) => {
             begin_at_shifts(alloc, ground, state, left, terminal, waiting)
@@ -108,14 +163,15 @@ fn begin_at_shifts<'grammar, L>(
     for item in &entered.items.vec {
         let right = Frame::at(item.production, item.index);
         if is_terminal(right.after(), terminal) {
-            begin_at(alloc, state, left, right, waiting)?;
+            begin_at(alloc, ground, state, left, right, waiting)?;
         }
     }
     Ok(())
 }
 
-fn begin_at<'grammar>(
+fn begin_at<'grammar, L>(
     alloc: Global,
+    ground: &Ground<'_, 'grammar, L>,
     state: usize,
     left: Frame<'grammar>,
     right: Frame<'grammar>,
@@ -127,11 +183,13 @@ fn begin_at<'grammar>(
         left: Vec::from_slice(alloc, &[left])?,
         right: Vec::from_slice(alloc, &[right])?,
     };
+    let missing = missing_cost(&ground.first_sets, &shape);
     waiting.add(Pending {
         shape,
         step,
         previous: 0,
         cost: 0,
+        missing,
     })
 }
 
@@ -190,6 +248,7 @@ impl<'grammar> Tried<'grammar> {
             step,
             previous,
             cost,
+            missing: _,
         } = pending;
         let number = self.steps.len();
         self.steps.push(Made { step, previous })?;

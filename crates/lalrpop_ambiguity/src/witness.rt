@@ -3,10 +3,11 @@ ghost use Rattle.std.specs.Prelude.{◌≡◌, ◌↔◌, ◌<◌, ◌∷◌, []
 ghost use Rattle.lalrpop_grammar.specs.grammars.WellFormed.{IsWellFormed, productions};
 ghost use Rattle.lalrpop_grammar.specs.declared.repr.Symbol.TheVariants.{Nonterminal};
 ghost use Rattle.lalrpop_ambiguity.specs.derivations.Derivations.{AreOfGrammar, beside, leaves, no_trees, nodes, root, trees_of};
+ghost use Rattle.lalrpop_ambiguity.specs.derivations.Moves.{HaveInCommon, moves_of};
 ghost use Rattle.lalrpop_ambiguity.specs.derivations.Represented.{roots_of, symbols_at, tree_of, trees_at};
 ghost use Rattle.lalrpop_ambiguity.specs.witnesses.Witnesses.{HaveOneRoot, IsExpansion, IsWitness};
 
-use crate::derivation::{Derivation, are_equal, push_children};
+use crate::derivation::{Derivation, are_equal, common_moves, push_children};
 use lalrpop_base::exact::{contains, equal};
 use lalrpop_base::memory::OutOfMemory;
 use lalrpop_base::repr::grammar::Grammar;
@@ -30,6 +31,16 @@ impl<'grammar> Ambiguity<'grammar> {
             left: self.left.clone(alloc)?,
             right: self.right.clone(alloc)?,
         })
+    }
+
+    /// The number of moves that a bottom-up parser makes for both derivations, before the first move
+    /// that differs. A move reads a leaf, or reduces by the production of a node. The error is
+    /// `OutOfMemory` if an allocation fails.
+    pub fn common_moves(&self, alloc: Global) -> Result<usize, OutOfMemory>
+        ensures common { IfOk result (λ count.
+            HaveInCommon count (moves_of (tree_of self.now.left)) (moves_of (tree_of self.now.right))) }
+    {
+        common_moves(alloc, &self.left, &self.right)
     }
 }
 

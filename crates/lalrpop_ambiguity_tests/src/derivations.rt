@@ -3,7 +3,7 @@
 use crate::searches::CALCULATOR;
 use crate::witnesses::bare;
 use lalrpop_ambiguity::derivation::Derivation;
-use lalrpop_ambiguity::witness::is_witness;
+use lalrpop_ambiguity::witness::{Ambiguity, is_witness};
 use lalrpop_base::memory::OutOfMemory;
 use lalrpop_base::repr::Production;
 use std::alloc::Global;
@@ -37,5 +37,13 @@ fn deep_derivations(rt: HostRuntime) -> Result<(), Fail> {
     assert!(rt; !is_witness(alloc, &grammar, &tree, &copy)?);
     let text = format!(in alloc; "{tree}")?;
     assert!(rt; text.as_str().ends_with("\"+\" E]"));
+    let found = Ambiguity {
+        left: tree,
+        right: copy,
+    };
+    let moves = found.common_moves(alloc)?;
+    assert_eq!(rt; moves, 3 * DEPTH + 4);
+    let marked = found.left.marked_text(alloc, moves)?;
+    assert!(rt; marked.as_str().ends_with("\"+\" E] (*)"));
     Ok(())
 }

@@ -1,9 +1,11 @@
 //! Tests of `lalrpop_ambiguity`: searches of small grammars, worked out by hand, derivations that
-//! are no witness, deep derivations, and allocations that are refused.
+//! are no witness, derivations with marks, deep ones, and allocations that are refused.
 #![tactic(auto)]
 
 #[cfg(test)]
 mod derivations;
+#[cfg(test)]
+mod marks;
 #[cfg(test)]
 mod refusals;
 #[cfg(test)]

@@ -21,7 +21,7 @@ pub(crate) fn bare<'g>(
 }
 
 // The same, with a derivation in place of the child at a place.
-fn with_child<'g>(
+pub(crate) fn with_child<'g>(
     alloc: Global,
     production: &'g Production,
     place: usize,

@@ -45,8 +45,8 @@ fn show_children<W: fmt::Write>(
     Ok(())
 }
 
-// The next step of a walk. An allocation failure is an error of the formatter.
-fn next_step<'tree, 'grammar>(
+/// The next step of a walk. An allocation failure is an error of the formatter.
+pub(super) fn next_step<'tree, 'grammar>(
     walk: &mut DerivationWalk<'tree, 'grammar>,
 ) -> Result<Option<DerivationStep<'tree, 'grammar>>, fmt::Error>
     ensures { IfOk result (λ step. GivesStep step (steps_of walk.old) (steps_of walk.new)) }
@@ -57,8 +57,8 @@ fn next_step<'tree, 'grammar>(
     }
 }
 
-// Writes the text of a step.
-fn show_step<W: fmt::Write>(
+/// Writes the text of a step.
+pub(super) fn show_step<W: fmt::Write>(
     is_first: bool,
     step: &DerivationStep<'_, '_>,
     f: &mut fmt::Formatter<W>,
@@ -80,8 +80,8 @@ fn show_step<W: fmt::Write>(
     }
 }
 
-// Whether a step enters a node.
-fn is_entering(step: &DerivationStep<'_, '_>) -> bool
+/// Whether a step enters a node.
+pub(super) fn is_entering(step: &DerivationStep<'_, '_>) -> bool
     ensures { result ≡ is_entering (step_of step.now) }
 {
     matches!(step, DerivationStep::Enter(_))

@@ -37,6 +37,16 @@ impl<'grammar> Frame<'grammar> {
         production.symbols.as_slice().get(self.to)
     }
 
+    /// The symbols after those that are derived.
+    pub(super) fn rest(&self) -> &'grammar [Symbol] {
+        let production = self.production;
+        let symbols = production.symbols.as_slice();
+        if self.to > symbols.len() {
+            return &[];
+        }
+        &symbols[self.to..]
+    }
+
     /// The frame with the symbol before derived, too.
     pub(super) fn with_before(self) -> Frame<'grammar> {
         Frame {
@@ -69,6 +79,11 @@ pub(super) struct Shape<'grammar> {
 }
 
 impl<'grammar> Shape<'grammar> {
+    /// The number of its frames.
+    pub(super) fn size(&self) -> usize {
+        self.left.len().saturating_add(self.right.len())
+    }
+
     /// A copy.
     pub(super) fn copy(&self, alloc: Global) -> Result<Shape<'grammar>, OutOfMemory> {
         Ok(Shape {

@@ -4,18 +4,21 @@ use super::frames::{
     symbol_before,
 };
 use super::links::Links;
+use super::missing::{are_nullable, missing_productions};
 use super::pending::{Pending, Side, Step, Waiting};
 use lalrpop_base::exact::equal;
+use lalrpop_base::first::FirstSets;
 use lalrpop_base::lr1_core::state::State;
 use lalrpop_base::memory::OutOfMemory;
 use lalrpop_base::repr::grammar::Grammar;
 use lalrpop_base::repr::{NonterminalString, Production, Symbol};
 use std::alloc::Global;
 
-/// What a search goes by: a grammar, states, and their links.
+/// What a search goes by: a grammar and its FIRST sets, states, and their links.
 #[derive(Drop)]
 pub(super) struct Ground<'a, 'grammar, L> {
     pub(super) grammar: &'grammar Grammar,
+    pub(super) first_sets: FirstSets<'grammar>,
     pub(super) states: &'a [State<'grammar, L>],
     pub(super) links: Links,
 }
@@ -34,8 +37,14 @@ const SYMBOL: usize = 1;
 // The cost of a production that one derivation gains.
 const PRODUCTION: usize = 50;
 
+/// What a shape still costs, at least.
+pub(super) fn missing_cost(first_sets: &FirstSets<'_>, shape: &Shape<'_>) -> usize {
+    missing_productions(first_sets, shape).saturating_mul(PRODUCTION)
+}
+
 /// Adds the shapes to which one step leads. Symbols before are gained only if one derivation needs
-/// them: it has nothing left after it.
+/// them: it has nothing left after it. What is left after the other may be nullable. Then it may be
+/// expanded to nothing.
 pub(super) fn add_moves<'grammar, L>(
     alloc: Global,
     ground: &Ground<'_, 'grammar, L>,
@@ -46,6 +55,12 @@ pub(super) fn add_moves<'grammar, L>(
     let right = is_blocked(&taken.shape.right);
     if !left && !right {
         return add_after(alloc, ground, taken, waiting);
+    }
+    if !left {
+        add_empty(alloc, ground, taken, Side::Left, waiting)?;
+    }
+    if !right {
+        add_empty(alloc, ground, taken, Side::Right, waiting)?;
     }
     let before_left = symbol_before(&taken.shape.left);
     let before_right = symbol_before(&taken.shape.right);
@@ -83,7 +98,7 @@ fn add_before<'grammar, L>(
         shape.state = *source;
         move_before(&mut shape.left);
         move_before(&mut shape.right);
-        add(taken, shape, Step::Before, SYMBOL, waiting)?;
+        add(ground, taken, shape, Step::Before, SYMBOL, waiting)?;
     }
     Ok(())
 }
@@ -109,7 +124,7 @@ fn add_around<'grammar, L>(
             let mut shape = taken.shape.copy(alloc)?;
             put_around(&mut shape, side, frame)?;
             let step = Step::Around(side, item.production, item.index);
-            add(taken, shape, step, PRODUCTION, waiting)?;
+            add(ground, taken, shape, step, PRODUCTION, waiting)?;
         }
     }
     Ok(())
@@ -142,7 +157,7 @@ fn add_after<'grammar, L>(
         move_after(&mut shape.right);
         close(&mut shape.left);
         close(&mut shape.right);
-        add(taken, shape, Step::After, SYMBOL, waiting)?;
+        add(ground, taken, shape, Step::After, SYMBOL, waiting)?;
     }
     if let Some(Symbol::Nonterminal(name)) = left {
         add_within(alloc, ground, taken, Side::Left, name, waiting)?;
@@ -164,19 +179,52 @@ fn add_within<'grammar, L>(
 ) -> Result<(), OutOfMemory> {
     let grammar = ground.grammar;
     for production in grammar.productions_for(name) {
-        let mut shape = taken.shape.copy(alloc)?;
-        let frames = frames_at_mut(&mut shape, side);
-        frames.push(Frame::at(production, 0))?;
-        close(frames);
-        let step = Step::Within(side, production);
-        add(taken, shape, step, PRODUCTION, waiting)?;
+        add_expanded(alloc, ground, taken, side, production, waiting)?;
     }
     Ok(())
 }
 
+// The nonterminal after one derivation is expanded by each production of nullable symbols.
+fn add_empty<'grammar, L>(
+    alloc: Global,
+    ground: &Ground<'_, 'grammar, L>,
+    taken: &Taken<'grammar>,
+    side: Side,
+    waiting: &mut Waiting<'grammar>,
+) -> Result<(), OutOfMemory> {
+    let Some(Symbol::Nonterminal(name)) = symbol_after(frames_at(&taken.shape, side)) else {
+        return Ok(());
+    };
+    let grammar = ground.grammar;
+    for production in grammar.productions_for(name) {
+        if are_nullable(&ground.first_sets, production.symbols.as_slice()) {
+            add_expanded(alloc, ground, taken, side, production, waiting)?;
+        }
+    }
+    Ok(())
+}
+
+// The nonterminal after one derivation is expanded by a production.
+fn add_expanded<'grammar, L>(
+    alloc: Global,
+    ground: &Ground<'_, 'grammar, L>,
+    taken: &Taken<'grammar>,
+    side: Side,
+    production: &'grammar Production,
+    waiting: &mut Waiting<'grammar>,
+) -> Result<(), OutOfMemory> {
+    let mut shape = taken.shape.copy(alloc)?;
+    let frames = frames_at_mut(&mut shape, side);
+    frames.push(Frame::at(production, 0))?;
+    close(frames);
+    let step = Step::Within(side, production);
+    add(ground, taken, shape, step, PRODUCTION, waiting)
+}
+
 // ---- parts of these
 // Adds a shape, unless nothing can follow it.
-fn add<'grammar>(
+fn add<'grammar, L>(
+    ground: &Ground<'_, 'grammar, L>,
     taken: &Taken<'grammar>,
     shape: Shape<'grammar>,
     step: Step<'grammar>,
@@ -186,11 +234,13 @@ fn add<'grammar>(
     if has_ended(&shape) {
         return Ok(());
     }
+    let missing = missing_cost(&ground.first_sets, &shape);
     waiting.add(Pending {
         shape,
         step,
         previous: taken.number,
         cost: taken.cost.saturating_add(cost),
+        missing,
     })
 }
 
