@@ -3,3 +3,4 @@ pub mod Groups
 pub mod Paragraphs
 pub mod SameKeys
 pub mod ShiftItems
+pub mod CauseLines

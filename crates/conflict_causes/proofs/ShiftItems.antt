@@ -10,9 +10,8 @@ use Rattle.lalrpop_collections.proofs.theory.lists.Members.{Contains-none, conta
 use Rattle.lalrpop_collections.proofs.theory.lists.Places.{contains_at, same_some}
 use Rattle.lalrpop_grammar.specs.declared.repr.Production.{Production}
 use Rattle.lalrpop_grammar.specs.declared.repr.TerminalString.{TerminalString}
-use Rattle.lalrpop_states.specs.collapse.Collapsible.{dots}
 use Rattle.lalrpop_states.specs.declared.lookahead.nil.Nil.{Nil}
-use Rattle.lalrpop_states.specs.states.Items.{Dotted, with_dot}
+use Rattle.lalrpop_states.specs.states.Items.{Dotted, with_dot, dots}
 use Rattle.conflict_causes.specs.Keys.{AddsIfBefore, IsBeforeTerminal, item_order}
 use Rattle.conflict_causes.specs.Keys.AddsIfBefore.{added, same}
 

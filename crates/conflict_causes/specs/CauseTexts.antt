@@ -7,8 +7,9 @@ use Rattle.lalrpop_ambiguity.specs.declared.search.Search.{Search}
 use Rattle.lalrpop_ambiguity.specs.declared.search.Search.TheVariants.{Found, Exhausted, Cut}
 use Rattle.lalrpop_ambiguity.specs.declared.witness.Ambiguity.{Ambiguity}
 use Rattle.lalrpop_ambiguity.specs.derivations.Derivations.{root}
-use Rattle.lalrpop_ambiguity.specs.derivations.Represented.{tree_of, tree_text}
-use Rattle.lalrpop_ambiguity.specs.witnesses.Searches.{IfFound}
+use Rattle.lalrpop_ambiguity.specs.derivations.MarkedTexts.{marked_text}
+use Rattle.lalrpop_ambiguity.specs.derivations.Represented.{tree_of}
+use Rattle.lalrpop_ambiguity.specs.witnesses.Searches.{AreCommonMoves, IfFound}
 use Rattle.lalrpop_ambiguity.specs.witnesses.Witnesses.{IsWitness}
 use Rattle.lalrpop_collections.specs.lists.Bits.{Bits, rising}
 use Rattle.lalrpop_grammar.specs.declared.lookahead.token.Token.{Token}
@@ -17,7 +18,7 @@ use Rattle.lalrpop_grammar.specs.declared.repr.Production.{Production}
 use Rattle.lalrpop_grammar.specs.declared.repr.TerminalString.{TerminalString}
 use Rattle.lalrpop_grammar.specs.grammars.Names.{nonterminal_text, symbol_text, symbols_text, token_text}
 use Rattle.lalrpop_grammar.specs.grammars.Tokens.{token_of}
-use Rattle.lalrpop_grammar.specs.grammars.WellFormed.{productions}
+use Rattle.lalrpop_grammar.specs.grammars.WellFormed.{productions, rules_of}
 use Rattle.lalrpop_states.specs.declared.lookahead.nil.Nil.{Nil}
 use Rattle.lalrpop_states.specs.declared.lr1_core.state.Action.{Action}
 use Rattle.lalrpop_states.specs.declared.lr1_core.state.Action.TheVariants.{Shift, Reduce}
@@ -25,6 +26,7 @@ use Rattle.lalrpop_states.specs.declared.lr1_core.state.Conflict.{Conflict}
 use Rattle.lalrpop_states.specs.declared.lr1_core.state.State.{State}
 use Rattle.lalrpop_states.specs.states.Items.{Dotted}
 use Rattle.conflict_causes.specs.Causes.{AreCauses}
+use Rattle.conflict_causes.specs.ExampleTexts.{IsAfterSearch}
 use Rattle.conflict_causes.specs.Extents.{AreCauseStates, AreCauseTokens}
 use Rattle.conflict_causes.specs.Keys.{AreItemsOfAction}
 
@@ -76,20 +78,22 @@ abbrev pub other_lines : Action → List (Dotted Nil) → List ℕ
 other_lines (Shift t target) items = flat_map shifting_line items
 other_lines (Reduce p) items = reduce_line p.now
 
--- two derivations, one under the other. The first takes the other action of the conflict
-abbrev pub found_text : Ambiguity → List ℕ
-found_text found = codes "  two derivations of " ++ (symbol_text (root (tree_of found.left)) ++ (codes ":\n    " ++ (tree_text found.right ++ (codes "\n    " ++ (tree_text found.left ++ codes "\n")))))
+-- two derivations, one under the other, each with a mark after so many moves. The first takes the
+-- other action of the conflict
+abbrev pub found_text : ℕ → Ambiguity → List ℕ
+found_text moves found = codes "  two derivations of " ++ (symbol_text (root (tree_of found.left)) ++ (codes ":\n    " ++ (marked_text moves (tree_of found.right) ++ (codes "\n    " ++ (marked_text moves (tree_of found.left) ++ codes "\n")))))
 
--- the result of a search of so many steps
-abbrev pub search_text : ℕ → Search → List ℕ
-search_text steps (Found found) = found_text found
-search_text steps Exhausted = codes "  no input with two derivations was found: the search was exhausted\n"
-search_text steps Cut = codes "  no input with two derivations was found: the search was cut after " ++ (decimal steps ++ codes " steps\n")
+-- the result of a search of so many steps. Two derivations have a mark after so many moves
+abbrev pub search_text : ℕ → ℕ → Search → List ℕ
+search_text steps moves (Found found) = found_text moves found
+search_text steps moves Exhausted = codes "  no input with two derivations was found: the search was exhausted\n"
+search_text steps moves Cut = codes "  no input with two derivations was found: the search was cut at " ++ (decimal steps ++ codes " steps or its memory limit\n")
 
 -- ---- the paragraphs
 -- a grammar, its states and their conflicts, and the bound of a search
 module _ (g : Grammar) (states : List (State Bits)) (conflicts : List (Conflict Bits)) (steps : ℕ) where
-  -- the text is the paragraph of a cause with a number. Two derivations that it shows are a witness
+  -- the text is the paragraph of a cause with a number. Two derivations that it shows are a witness,
+  -- and have a mark after the moves that they have in common. If it has none, it has examples
   pub record IsCauseText (number : ℕ) (cause : List ℕ) (text : List ℕ) : Type 0 where
     pub first : Conflict Bits
     pub is_first : slice_get conflicts (slice_index cause 0) ≡ Some first
@@ -101,7 +105,11 @@ module _ (g : Grammar) (states : List (State Bits)) (conflicts : List (Conflict 
     pub are_items : AreItemsOfAction states first.state first.action items
     pub search : Search
     pub is_witness : IfFound (λ found. IsWitness (productions g) (tree_of found.left) (tree_of found.right)) search
-    pub is_text : text ≡ heading number first.action g.terminals tokens numbers.keys ++ (other_lines first.action items.keys ++ (reduce_line first.production.now ++ search_text steps search))
+    pub moves : ℕ
+    pub are_moves : AreCommonMoves moves search
+    pub examples : List ℕ
+    pub are_examples : IsAfterSearch (rules_of g) states first search examples
+    pub is_text : text ≡ heading number first.action g.terminals tokens numbers.keys ++ (other_lines first.action items.keys ++ (reduce_line first.production.now ++ (search_text steps moves search ++ examples)))
 
   -- a text grew by the paragraph of a cause
   pub record AppendsCause (number : ℕ) (cause : List ℕ) (old new : List ℕ) : Type 0 where

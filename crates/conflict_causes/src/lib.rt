@@ -2,7 +2,8 @@
 //! shows as many conflicts.
 //!
 //! - `causes`: the causes of conflicts.
-//! - `text`: the causes as a text, each with a witness of ambiguity where one is found.
+//! - `text`: the causes as a text, each with a witness of ambiguity where one is found, and the
+//!   causes in one line each (`one_line`).
 #![tactic(auto)]
 
 pub mod causes;

@@ -23,26 +23,26 @@ cause 1: shift/reduce on \"*\" in states 9 15
   shift by   E = E (*) \"*\" E
   reduce     E = E \"*\" E
   two derivations of E:
-    [E: E \"*\" [E: E \"*\" E]]
-    [E: [E: E \"*\" E] \"*\" E]
+    [E: E \"*\" [E: E (*) \"*\" E]]
+    [E: [E: E \"*\" E (*)] \"*\" E]
 cause 2: shift/reduce on \"+\" in states 9 15
   shift by   E = E (*) \"+\" E
   reduce     E = E \"*\" E
   two derivations of E:
-    [E: E \"*\" [E: E \"+\" E]]
-    [E: [E: E \"*\" E] \"+\" E]
+    [E: E \"*\" [E: E (*) \"+\" E]]
+    [E: [E: E \"*\" E (*)] \"+\" E]
 cause 3: shift/reduce on \"*\" in states 10 16
   shift by   E = E (*) \"*\" E
   reduce     E = E \"+\" E
   two derivations of E:
-    [E: E \"+\" [E: E \"*\" E]]
-    [E: [E: E \"+\" E] \"*\" E]
+    [E: E \"+\" [E: E (*) \"*\" E]]
+    [E: [E: E \"+\" E (*)] \"*\" E]
 cause 4: shift/reduce on \"+\" in states 10 16
   shift by   E = E (*) \"+\" E
   reduce     E = E \"+\" E
   two derivations of E:
-    [E: E \"+\" [E: E \"+\" E]]
-    [E: [E: E \"+\" E] \"+\" E]
+    [E: E \"+\" [E: E (*) \"+\" E]]
+    [E: [E: E \"+\" E (*)] \"+\" E]
 ";
     assert_eq!(rt; shown(alloc, CALCULATOR, 1000)?.as_str(), expected);
     Ok(())
@@ -57,10 +57,27 @@ cause 1: reduce/reduce on Eof in state 3
   reduce     B = \"x\"
   reduce     A = \"x\"
   two derivations of S:
-    [S: [B: \"x\"]]
-    [S: [A: \"x\"]]
+    [S: [B: \"x\" (*)]]
+    [S: [A: \"x\" (*)]]
 ";
     let text = "S = A\nS = B\nA = \"x\"\nB = \"x\"";
+    assert_eq!(rt; shown(alloc, text, 1000)?.as_str(), expected);
+    Ok(())
+}
+
+#[test]
+fn an_empty_right_side(rt: HostRuntime) -> Result<(), Fail> {
+    let alloc = rt.alloc();
+    let expected = "\
+1 conflict of 1 cause
+cause 1: shift/reduce on \"x\" in state 0
+  shift by   S = (*) \"x\"
+  reduce     A =
+  two derivations of S:
+    [S: (*) \"x\"]
+    [S: [A: (*)] \"x\"]
+";
+    let text = "S = A \"x\"\nS = \"x\"\nA =";
     assert_eq!(rt; shown(alloc, text, 1000)?.as_str(), expected);
     Ok(())
 }
@@ -75,6 +92,9 @@ cause 1: reduce/reduce on \"x\" in state 3
   reduce     B = \"a\"
   reduce     A = \"a\"
   no input with two derivations was found: the search was exhausted
+  an input for each action:
+    reduce  \"a\" (*) \"x\" \"z\"
+    reduce  \"a\" (*) \"x\" \"y\"
 ";
     let text = "S = A \"x\" \"y\"\nS = B \"x\" \"z\"\nA = \"a\"\nB = \"a\"";
     assert_eq!(rt; shown(alloc, text, 1000)?.as_str(), expected);
@@ -89,7 +109,10 @@ fn cut(rt: HostRuntime) -> Result<(), Fail> {
 cause 1: shift/reduce on \"+\" in state 4
   shift by   E = E (*) \"+\" E
   reduce     E = E \"+\" E
-  no input with two derivations was found: the search was cut after 0 steps
+  no input with two derivations was found: the search was cut at 0 steps or its memory limit
+  an input for each action:
+    shift   E \"+\" E (*) \"+\" E
+    reduce  E \"+\" E (*) \"+\" E
 ";
     let text = "S = E\nE = E \"+\" E\nE = \"NUM\"";
     assert_eq!(rt; shown(alloc, text, 0)?.as_str(), expected);

@@ -1,9 +1,9 @@
 //! Keys of conflicts.
 ghost use Rattle.std.specs.Prelude.{◌≡◌, ◌++◌, ◌↔◌, ℕ, IfOk, OnOk, IsTrue, Some, Contains, slice_get};
 ghost use Rattle.std.specs.BTreeSet.{IsOrdered};
-ghost use Rattle.lalrpop_states.specs.collapse.Collapsible.{dots, dots_at};
+ghost use Rattle.lalrpop_states.specs.collapse.Collapsible.{dots_at};
 ghost use Rattle.lalrpop_states.specs.states.CheckStates.{finished};
-ghost use Rattle.lalrpop_states.specs.states.Items.{Dotted, with_dot};
+ghost use Rattle.lalrpop_states.specs.states.Items.{Dotted, with_dot, dots};
 ghost use Rattle.lalrpop_states.specs.declared.lookahead.nil.Nil.{Nil};
 ghost use Rattle.lalrpop_grammar.specs.declared.repr.Production.{Production};
 ghost use Rattle.conflict_causes.specs.Keys.{AddsIfBefore, AreItemsOfAction, IsBeforeTerminal, IsKey, item_order};

@@ -17,6 +17,7 @@ use lalrpop_base::lr1_core::state::Action;
 use lalrpop_base::memory::OutOfMemory;
 use lalrpop_base::repr::terminals::TerminalSet;
 use lalrpop_base::repr::{Production, Symbol};
+use std::alloc::Global;
 use std::collections::BTreeSet;
 
 /// Appends the numbers of conflicts and of causes.
@@ -36,8 +37,8 @@ pub(super) fn push_summary(
     Ok(())
 }
 
-// The end of a noun after a number.
-fn plural(number: usize) -> &'static str
+/// The end of a noun after a number.
+pub(super) fn plural(number: usize) -> &'static str
     ensures { result.now ≡ plural number }
 {
     if number == 1 { "" } else { "s" }
@@ -63,8 +64,8 @@ pub(super) fn push_heading(
     Ok(())
 }
 
-// The kind of a conflict with a reduction and another action.
-fn kind_of(action: &Action<'_>) -> &'static str
+/// The kind of a conflict with a reduction and another action.
+pub(super) fn kind_of(action: &Action<'_>) -> &'static str
     ensures { result.now ≡ kind_of action.now }
 {
     match action {
@@ -73,8 +74,8 @@ fn kind_of(action: &Action<'_>) -> &'static str
     }
 }
 
-// Appends the tokens of a set by ascending bit, each after a space.
-fn push_tokens(
+/// Appends the tokens of a set by ascending bit, each after a space.
+pub(super) fn push_tokens(
     text: &mut String,
     set: &TokenSet,
     terminals: &TerminalSet,
@@ -100,8 +101,8 @@ fn push_states(text: &mut String, states: &BTreeSet<usize>) -> Result<(), OutOfM
     Ok(())
 }
 
-// Appends numbers, each after a space.
-fn push_numbers(text: &mut String, numbers: &BTreeSet<usize>) -> Result<(), OutOfMemory>
+/// Appends numbers, each after a space.
+pub(super) fn push_numbers(text: &mut String, numbers: &BTreeSet<usize>) -> Result<(), OutOfMemory>
     ensures { OnOk result
         (string_bytes text.new ≡ string_bytes text.old ++ cause_numbers numbers.now.keys) }
 {
@@ -148,8 +149,8 @@ fn push_shift(text: &mut String, item: &Lr0Item<'_>) -> Result<(), OutOfMemory>
     Ok(())
 }
 
-// Appends an item, with a mark in the place of its dot.
-fn push_item(text: &mut String, item: &Lr0Item<'_>) -> Result<(), OutOfMemory>
+/// Appends an item, with a mark in the place of its dot.
+pub(super) fn push_item(text: &mut String, item: &Lr0Item<'_>) -> Result<(), OutOfMemory>
     ensures { OnOk result (string_bytes text.new ≡ string_bytes text.old ++ item_text item.now) }
 {
     write!(text, "{} =", item.production.nonterminal)?;
@@ -181,8 +182,8 @@ pub(super) fn push_reduction(text: &mut String, production: &Production) -> Resu
     Ok(())
 }
 
-// Appends a production.
-fn push_rule(text: &mut String, production: &Production) -> Result<(), OutOfMemory>
+/// Appends a production.
+pub(super) fn push_rule(text: &mut String, production: &Production) -> Result<(), OutOfMemory>
     ensures { OnOk result
         (string_bytes text.new ≡ string_bytes text.old ++ rule_text production.now) }
 {
@@ -191,36 +192,46 @@ fn push_rule(text: &mut String, production: &Production) -> Result<(), OutOfMemo
     Ok(())
 }
 
-/// Appends the result of a search of so many steps.
+/// Appends the result of a search of so many steps. Two derivations have a mark after so many moves.
 pub(super) fn push_search(
+    alloc: Global,
     text: &mut String,
     search: &Search<'_>,
     steps: usize,
+    moves: usize,
 ) -> Result<(), OutOfMemory>
     ensures { OnOk result
-        (string_bytes text.new ≡ string_bytes text.old ++ search_text steps search.now) }
+        (string_bytes text.new ≡ string_bytes text.old ++ search_text steps moves search.now) }
 {
     match search {
-        Search::Found(found) => push_found(text, found),
+        Search::Found(found) => push_found(alloc, text, found, moves),
         Search::Exhausted => {
             text.push_str("  no input with two derivations was found: the search was exhausted\n")?;
             Ok(())
         }
         Search::Cut => {
-            text.push_str("  no input with two derivations was found: the search was cut after ")?;
-            write!(text, "{steps} steps\n")?;
+            text.push_str("  no input with two derivations was found: the search was cut at ")?;
+            write!(text, "{steps} steps or its memory limit\n")?;
             Ok(())
         }
     }
 }
 
-// Appends two derivations, one under the other.
-fn push_found(text: &mut String, found: &Ambiguity<'_>) -> Result<(), OutOfMemory>
-    ensures { OnOk result (string_bytes text.new ≡ string_bytes text.old ++ found_text found.now) }
+// Appends two derivations, one under the other, each with a mark after so many moves.
+fn push_found(
+    alloc: Global,
+    text: &mut String,
+    found: &Ambiguity<'_>,
+    moves: usize,
+) -> Result<(), OutOfMemory>
+    ensures { OnOk result
+        (string_bytes text.new ≡ string_bytes text.old ++ found_text moves found.now) }
 {
+    let left = found.left.marked_text(alloc, moves)?;
+    let right = found.right.marked_text(alloc, moves)?;
     text.push_str("  two derivations of ")?;
     push_root(text, &found.left)?;
-    write!(text, ":\n    {}\n    {}\n", found.right, found.left)?;
+    write!(text, ":\n    {right}\n    {left}\n")?;
     Ok(())
 }
 
