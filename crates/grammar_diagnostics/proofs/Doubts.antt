@@ -70,6 +70,7 @@ some_no None h = refl
 some_no (Some p) h = cc
 
 module _ (g : Grammar) (start : NonterminalString) (well : IsWellFormed g) (ordered : IsOrdered name_cmp g.nonterminals) (sets : Sets)
+    (started : sets.has_start ≡ not (is_empty (productions_of g start)))
     (reached : (a : NonterminalString) → Contains sets.reachable.keys a ↔ IsReachable (productions g) start a)
     (productive : (a : NonterminalString) → Contains sets.productive.keys a ↔ IsProductive (productions g) a)
     (cyclic : (a : NonterminalString) → Contains sets.cyclic.keys a ↔ IsCyclic (productions g) a)
@@ -97,6 +98,21 @@ module _ (g : Grammar) (start : NonterminalString) (well : IsWellFormed g) (orde
   outside : (set : BTreeSet NonterminalString) (a : NonterminalString) (P : Type 0) → Contains set.keys a ↔ P → (P → ⊥) → not (set_has set a) ≡ true
   outside set a P iff none = ap not (not_held (set_has set a) P (λ t. iff.0 ((is_in set a).0 t)) none)
 
+  -- ---- the start symbol
+  start_step : (qs : List Production) → productions_of g start ≡ qs → not (is_empty qs) ≡ true → HasProduction ps start
+  start_step [] same h = cc
+  start_step (q ∷ rest) same h = production_of g start well q rest same
+
+  start_has : sets.has_start ≡ true → HasProduction ps start
+  start_has h = start_step (productions_of g start) refl (sym started ∙ h)
+
+  some_test : (qs : List Production) → (qs ≡ [] → ⊥) → not (is_empty qs) ≡ true
+  some_test [] some = absurd (some refl)
+  some_test (q ∷ rest) some = refl
+
+  has_started : HasProduction ps start → sets.has_start ≡ true
+  has_started h = started ∙ some_test (productions_of g start) (λ none. no_production g start (productions_own g well ordered) none h)
+
   -- ---- what is found holds
   use_holds : (w : Doubt) → Contains (map use_warning uses) w → Holds w
   use_holds w c =
@@ -111,7 +127,7 @@ module _ (g : Grammar) (start : NonterminalString) (well : IsWellFormed g) (orde
 
   module _ (e : Entry) (there : Contains g.nonterminals.entries e) where
     abbrev A : List Doubt
-    A = when (is_defined e.1 && not (set_has sets.reachable e.0)) (Unreachable e.0 e.1.span)
+    A = when (sets.has_start && (is_defined e.1 && not (set_has sets.reachable e.0))) (Unreachable e.0 e.1.span)
 
     abbrev B : List Doubt
     B = when (is_defined e.1 && not (set_has sets.productive e.0)) (Unproductive e.0 e.1.span)
@@ -135,8 +151,9 @@ module _ (g : Grammar) (start : NonterminalString) (well : IsWellFormed g) (orde
     entry_holds w c = elim (Contains-append_cases A (B ++ (C ++ (D ++ E))) w c) [
       | inl a ↦
           let r = when_from _ (Unreachable e.0 e.1.span) w a in
-          let b = and_both _ _ r.0 in
-          held (Unreachable e.0 e.1.span) w r.1 (defined_has g well e there b.0, out sets.reachable e.0 _ (reached e.0) (not_true _ b.1), placed)
+          let s = and_both _ _ r.0 in
+          let b = and_both _ _ s.1 in
+          held (Unreachable e.0 e.1.span) w r.1 (start_has s.0, defined_has g well e there b.0, out sets.reachable e.0 _ (reached e.0) (not_true _ b.1), placed)
       | inr rest ↦ elim (Contains-append_cases B (C ++ (D ++ E)) w rest) [
         | inl a ↦
             let r = when_from _ (Unproductive e.0 e.1.span) w a in
@@ -263,8 +280,8 @@ module _ (g : Grammar) (start : NonterminalString) (well : IsWellFormed g) (orde
       let named : Contains use_part (Undefined a r.0.1) = subst (λ n. Contains use_part (Undefined n r.0.1)) r.2 there in
       from_uses (Undefined a p) (subst (λ q. Contains use_part (Undefined a q)) (same_use a r.0.1 p f h.1) named)
   holds_found (Unreachable a span) h =
-      let e = h.2 in
-      let test = both_and (is_defined e.entry) (not (set_has sets.reachable a)) (is_defined_at a e.entry e.there h.0) (outside sets.reachable a _ (reached a) h.1) in
+      let e = h.3 in
+      let test = both_and sets.has_start (is_defined e.entry && not (set_has sets.reachable a)) (has_started h.0) (both_and (is_defined e.entry) (not (set_has sets.reachable a)) (is_defined_at a e.entry e.there h.1) (outside sets.reachable a _ (reached a) h.2)) in
       subst (λ at. Contains found (Unreachable a at)) e.at (from_entry (a, e.entry) (Unreachable a e.entry.span) e.there (in_a (a, e.entry) e.there (when_there _ (Unreachable a e.entry.span) test)))
   holds_found (Unproductive a span) h =
       let e = h.2 in

@@ -1,15 +1,15 @@
 -- Where the words that warnings are about lie.
 use Rattle.std.proofs.Common.{◌≡◌, ◌==◌, ◌+◌, ℕ, Bool, true, false, List, [], ◌∷◌, length, Option, None, Some, cond, sym, ap, ap₂, subst, ◌∙◌, arith}
 use Rattle.std.specs.Prelude.{find}
-use Rattle.std.specs.List.{slice_split}
 use Rattle.lalrpop_grammar.specs.declared.repr.NonterminalString.{NonterminalString}
 use Rattle.lalrpop_grammar.specs.declared.repr.Span.{Span}
 use Rattle.grammar_text.specs.Lines.{without_cr}
 use Rattle.grammar_diagnostics.specs.declared.warning_places.Place.{Place}
 use Rattle.grammar_diagnostics.specs.Places.{line_at}
-use Rattle.grammar_diagnostics.specs.Pieces.{Piece, pieces_from, words_at}
+use Rattle.grammar_diagnostics.specs.Pieces.{Piece, words_at}
 use Rattle.grammar_diagnostics.specs.Warnings.{Doubt, Undefined, Unreachable, Unproductive, Cyclic, NothingToInline, NeverInlined, Repeated, NoStart, StartUsed, doubt_span}
-use Rattle.grammar_diagnostics.specs.WarningPlaces.{ends_after, first_word, is_sign, is_word_of, line_with, named_words, other_words, place_on, right_words, warning_place, word_about, word_of}
+use Rattle.grammar_diagnostics.specs.TextLines.{ends_after, line_with, text_lines}
+use Rattle.grammar_diagnostics.specs.WarningPlaces.{first_word, is_equals_sign, is_word_of, named_words, other_words, place_on, right_words, warning_place, word_about, word_of}
 use Rattle.grammar_diagnostics.proofs.Within.{AreWithin, IsWithin, text_within, words_within}
 
 -- a piece, if there is one, lies between two offsets
@@ -41,7 +41,7 @@ either_within true low high ps qs h k = h
 either_within false low high ps qs h k = k
 
 named_within : (low high : ℕ) (ps : List Piece) → AreWithin low high ps → AreWithin low high (named_words ps)
-named_within low high ps h = either_within (is_sign (first_word (other_words ps))) low high ps (other_words ps) h (others_within low high ps h)
+named_within low high ps h = either_within (is_equals_sign (first_word (other_words ps))) low high ps (other_words ps) h (others_within low high ps h)
 
 word_within : (low high : ℕ) (a : NonterminalString) (ps : List Piece) → AreWithin low high ps → PieceWithin low high (word_of a ps)
 word_within low high a ps h = find_within low high (is_word_of a) ps h
@@ -68,7 +68,7 @@ about_fits start w line o same =
 
 -- the line of a text in which an offset is, if this is it, lies within the text
 pub line_fits : (offset : ℕ) (text : List ℕ) (o : Option Piece) → o ≡ line_with offset text → PieceWithin 0 (0 + length text) o
-line_fits offset text o same = subst (PieceWithin 0 (0 + length text)) (sym same) (find_within 0 (0 + length text) (ends_after offset) (pieces_from 0 (slice_split (λ b. b == 10) text)) (text_within (λ b. b == 10) 0 text))
+line_fits offset text o same = subst (PieceWithin 0 (0 + length text)) (sym same) (find_within 0 (0 + length text) (ends_after offset) (text_lines text) (text_within (λ b. b == 10) 0 text))
 
 -- a place in the line in which the span of a warning begins is that of the warning
 pub is_warning_place : (start : NonterminalString) (w : Doubt) (text : List ℕ) (span : Span) (number : ℕ) (line : Option Piece) (place : Place) → span ≡ doubt_span w → number ≡ line_at text span.0 → line ≡ line_with span.0 text → place ≡ place_on start w number line → place ≡ warning_place text start w

@@ -1,5 +1,6 @@
 pub mod SameFaults
 pub mod Within
+pub mod LineNumbers
 pub mod FoundWords
 pub mod Uses
 pub mod NearestNames

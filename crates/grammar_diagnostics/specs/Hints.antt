@@ -67,8 +67,8 @@ begins_curly word = starts_with (λ a b. a == b) word (226 ∷ 128 ∷ []) && (n
 abbrev pub begins_comment : List ℕ → Bool
 begins_comment word = starts_with (λ a b. a == b) word (codes "//") || (starts_with (λ a b. a == b) word (codes "/*") || starts_with (λ a b. a == b) word (codes "--"))
 
--- the hint for a word that begins with a double quote: with another one inside it that of the last
--- byte or of the others, for a literal none, and else that a literal does not end
+-- the hint for a word that begins with a double quote. If another quote is inside, it is that of the
+-- later bytes. A literal has none. Any other word is a literal that does not end
 abbrev pub by_quote : List ℕ → Option Hint
 by_quote word =
     if nat_lt (length word) 2 then Some Literal else (

@@ -5,6 +5,7 @@ pub mod Hints
 pub mod Texts
 pub mod Warnings
 pub mod Places
+pub mod TextLines
 pub mod Messages
 pub mod Nearest
 pub mod WarningPlaces

@@ -1,10 +1,10 @@
 -- Warnings in words.
-use Rattle.std.specs.Prelude.{ℕ, List, ◌++◌, Option, None, Some, codes, is_some, if◌then◌else◌}
+use Rattle.std.specs.Prelude.{ℕ, List, ◌++◌, Option, None, Some, codes}
 use Rattle.std.specs.Borrow.{Bor}
 use Rattle.std.specs.Fmt.{decimal}
 use Rattle.lalrpop_grammar.specs.declared.repr.NonterminalString.{NonterminalString}
 use Rattle.grammar_diagnostics.specs.Places.{line_at}
-use Rattle.grammar_diagnostics.specs.Warnings.{Doubt, Undefined, Unreachable, Unproductive, Cyclic, NothingToInline, NeverInlined, Repeated, NoStart, StartUsed, undefined_name}
+use Rattle.grammar_diagnostics.specs.Warnings.{Doubt, Undefined, Unreachable, Unproductive, Cyclic, NothingToInline, NeverInlined, Repeated, NoStart, StartUsed}
 
 -- the name to which a reference refers
 abbrev pub name_now : Bor NonterminalString → NonterminalString
@@ -34,15 +34,11 @@ usual_way_out (Repeated later first) = codes "leave one of the two out"
 usual_way_out NoStart = codes "name another start symbol"
 usual_way_out (StartUsed p) = codes "add a start symbol that is on none"
 
--- the way out of an undefined nonterminal, with a name that may be meant
-abbrev pub undefined_way_out : Option NonterminalString → List ℕ
-undefined_way_out None = codes "write one, or mend the name"
-undefined_way_out (Some other) = codes "perhaps `" ++ (other.text ++ codes "` is meant")
-
--- the way out of a doubt, with a name that may be meant by an undefined one
+-- the way out of a doubt: the name that may be meant, if there is one, and else the usual way out
 abbrev pub way_out : Option NonterminalString → Doubt → List ℕ
-way_out near w = if is_some (undefined_name w) then undefined_way_out near else usual_way_out w
+way_out None w = usual_way_out w
+way_out (Some other) w = codes "perhaps `" ++ (other.text ++ codes "` is meant")
 
--- a warning in words, for a text, a start symbol, and a name that may be meant by an undefined one
+-- a warning in words, for a text, a start symbol, and a name that may be meant
 abbrev pub message : List ℕ → NonterminalString → Option NonterminalString → Doubt → List ℕ
 message text start near w = doubt_text text start w ++ (codes "; " ++ way_out near w)

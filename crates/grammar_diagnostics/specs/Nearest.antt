@@ -8,7 +8,7 @@ use Rattle.lalrpop_grammar.specs.declared.repr.grammar.Grammar.{Grammar}
 use Rattle.lalrpop_grammar.specs.grammars.WellFormed.{productions}
 use Rattle.lalrpop_useful.specs.useful.Reachable.{HasProduction}
 use Rattle.grammar_diagnostics.specs.declared.nearest.Near.{Near as NearWords}
-use Rattle.grammar_diagnostics.specs.Warnings.{Doubt, is_defined, undefined_name}
+use Rattle.grammar_diagnostics.specs.Warnings.{Doubt, is_defined, missing_name}
 
 -- the distance of two names: the least number of insertions, deletions and substitutions of
 -- characters from one to the other (Levenshtein, "Binary codes capable of correcting deletions,
@@ -62,6 +62,6 @@ abbrev pub nearest_to : Grammar → Option NonterminalString → Option Nontermi
 nearest_to g None = None
 nearest_to g (Some a) = nearest_name g a
 
--- the name that may be meant by the undefined one of a warning, and none for other warnings
-abbrev pub suggested : Grammar → Doubt → Option NonterminalString
-suggested g w = nearest_to g (undefined_name w)
+-- the name that may be meant by the missing one of a warning, and none for other warnings
+abbrev pub suggested : Grammar → NonterminalString → Doubt → Option NonterminalString
+suggested g start w = nearest_to g (missing_name start w)

@@ -1,23 +1,15 @@
--- The place of the word that a warning is about.
-use Rattle.std.specs.Prelude.{◌==◌, ℕ, ◌+◌, ◌-◌, nat_le, Bool, false, List, [], ◌∷◌, length, find, Option, None, Some, codes, if◌then◌else◌}
-use Rattle.std.specs.List.{slice_split}
+-- The place of the word that a warning is about, and that of a name.
+use Rattle.std.specs.Prelude.{ℕ, ◌+◌, Bool, false, List, [], ◌∷◌, length, find, Option, None, Some, codes, if◌then◌else◌}
 use Rattle.std.specs.Str.{bytes_eq}
 use Rattle.lalrpop_grammar.specs.declared.repr.NonterminalString.{NonterminalString}
 use Rattle.lalrpop_grammar.specs.declared.repr.Span.{Span}
 use Rattle.grammar_text.specs.Lines.{without_cr}
 use Rattle.grammar_diagnostics.specs.declared.warning_places.Place.{Place}
-use Rattle.grammar_diagnostics.specs.Pieces.{Piece, pieces_from, words_at}
+use Rattle.grammar_diagnostics.specs.Pieces.{Piece, words_at}
 use Rattle.grammar_diagnostics.specs.Places.{line_at}
 use Rattle.grammar_diagnostics.specs.TextErrors.{column_of}
+use Rattle.grammar_diagnostics.specs.TextLines.{line_with}
 use Rattle.grammar_diagnostics.specs.Warnings.{Doubt, Undefined, Unreachable, Unproductive, Cyclic, NothingToInline, NeverInlined, Repeated, NoStart, StartUsed, doubt_span}
-
--- whether an offset is not after the end of a line, whose LF has the offset of its end
-abbrev pub ends_after : ℕ → Piece → Bool
-ends_after offset line = nat_le (offset - line.start) (length line.bytes)
-
--- the line of a text in which an offset is, if there is one
-abbrev pub line_with : ℕ → List ℕ → Option Piece
-line_with offset text = find (ends_after offset) (pieces_from 0 (slice_split (λ b. b == 10) text))
 
 -- whether a word is a name
 abbrev pub is_word_of : NonterminalString → Piece → Bool
@@ -38,22 +30,22 @@ abbrev pub right_words : List Piece → List Piece
 right_words words = other_words (other_words words)
 
 -- whether a word is the sign of a production
-abbrev pub is_sign : Option Piece → Bool
-is_sign None = false
-is_sign (Some word) = bytes_eq word.bytes (codes "=")
+abbrev pub is_equals_sign : Option Piece → Bool
+is_equals_sign None = false
+is_equals_sign (Some word) = bytes_eq word.bytes (codes "=")
 
 -- the words from the name that a line is about: all those of a production, and those after the first
 -- one of a mark
 abbrev pub named_words : List Piece → List Piece
-named_words words = if is_sign (first_word (other_words words)) then words else other_words words
+named_words words = if is_equals_sign (first_word (other_words words)) then words else other_words words
 
 -- the first word that is a name
 abbrev pub word_of : NonterminalString → List Piece → Option Piece
 word_of a words = find (is_word_of a) words
 
--- the word of a line that a warning is about, with a start symbol: a nonterminal on the right side of
--- a production, the left side of a production or the name of a mark, or the first symbol of a right
--- side
+-- the word of a line that a warning is about, for a start symbol. It may be a nonterminal on the
+-- right side of a production. It may be the left side of a production, or the name of a mark. For a
+-- repeated production it is the first symbol of the right side
 abbrev pub word_about : NonterminalString → Doubt → List Piece → Option Piece
 word_about start (Undefined a p) words = word_of a (right_words words)
 word_about start (Unreachable a span) words = word_of a (named_words words)
@@ -88,3 +80,8 @@ place_on start w number (Some line) = place_in_line number (doubt_span w) line (
 -- word, it is the beginning of its line, and the span of the warning
 abbrev pub warning_place : List ℕ → NonterminalString → Doubt → Place
 warning_place text start w = place_on start w (line_at text (doubt_span w).0) (line_with (doubt_span w).0 text)
+
+-- the place of a name in the line in which a span begins, as the left side of a production or as the
+-- name of a mark. It is that of a warning about the name with the span
+abbrev pub name_place : List ℕ → NonterminalString → Span → Place
+name_place text a span = warning_place text a (Unproductive a span)

@@ -24,9 +24,10 @@ use Rattle.grammar_diagnostics.specs.declared.warnings.Sets.{Sets}
 use Rattle.grammar_diagnostics.specs.declared.warnings.Warning.{Warning as WarningWords}
 use Rattle.grammar_diagnostics.specs.declared.warnings.Warning.TheVariants as words
 
--- a doubt: an undefined nonterminal, with its first use; one that is unreachable, unproductive or
--- cyclic; one that is marked without a production, or without a use, each with the span of its entry; a production with the right
--- side of an earlier one; a start symbol without a production, or on the right side of one
+-- a doubt. An undefined nonterminal has its first use. One that is unreachable, unproductive or
+-- cyclic has the span of its entry. So has one that is marked without a production, or without a use.
+-- A production may repeat the right side of an earlier one. A start symbol may have no production,
+-- or be on the right side of one
 pub data Doubt : Type 0 where
   Undefined : NonterminalString → Production → Doubt
   Unreachable : NonterminalString → Span → Doubt
@@ -63,10 +64,11 @@ pub record IsMarkedAt (g : Grammar) (a : NonterminalString) (span : Span) : Type
   pub marked : Contains entry.attributes.items inline_mark
   pub at : entry.span ≡ span
 
--- a warning holds of a grammar with a start symbol
+-- a warning holds of a grammar with a start symbol. If the start symbol has no production, all other
+-- nonterminals are unreachable, and no warning says so
 abbrev pub IsWarning : Grammar → NonterminalString → Doubt → Type 0
 IsWarning g start (Undefined a p) = IsUndefined (productions g) a × IsFirstUse (productions g) a p
-IsWarning g start (Unreachable a span) = HasProduction (productions g) a × (IsReachable (productions g) start a → ⊥) × HasEntryAt g a span
+IsWarning g start (Unreachable a span) = HasProduction (productions g) start × HasProduction (productions g) a × (IsReachable (productions g) start a → ⊥) × HasEntryAt g a span
 IsWarning g start (Unproductive a span) = HasProduction (productions g) a × (IsProductive (productions g) a → ⊥) × HasEntryAt g a span
 IsWarning g start (Cyclic a span) = IsCyclic (productions g) a × HasEntryAt g a span
 IsWarning g start (NothingToInline a span) = IsMarkedAt g a span × (HasProduction (productions g) a → ⊥)
@@ -105,10 +107,10 @@ when test x = if test then x ∷ [] else []
 abbrev pub set_has : BTreeSet NonterminalString → NonterminalString → Bool
 set_has set a = contains name_cmp set a
 
--- the warnings of an entry, by the sets and all productions
+-- the warnings of an entry, by what is known of the nonterminals, and by all productions
 abbrev pub entry_warnings : Sets → List Production → NonterminalString × NonterminalData → List Doubt
 entry_warnings sets all e =
-    when (is_defined e.1 && not (set_has sets.reachable e.0)) (Unreachable e.0 e.1.span)
+    when (sets.has_start && (is_defined e.1 && not (set_has sets.reachable e.0))) (Unreachable e.0 e.1.span)
     ++ (when (is_defined e.1 && not (set_has sets.productive e.0)) (Unproductive e.0 e.1.span)
     ++ (when (set_has sets.cyclic e.0) (Cyclic e.0 e.1.span)
     ++ (when (is_marked e.1 && not (is_defined e.1)) (NothingToInline e.0 e.1.span)
@@ -146,15 +148,16 @@ doubt_span (Repeated later first) = later.span
 doubt_span NoStart = record { 0 = 0; 1 = 0 }
 doubt_span (StartUsed p) = p.span
 
--- ---- the undefined name
--- the undefined nonterminal of a warning, and none for other warnings
-abbrev pub undefined_name : Doubt → Option NonterminalString
-undefined_name (Undefined a p) = Some a
-undefined_name (Unreachable a span) = None
-undefined_name (Unproductive a span) = None
-undefined_name (Cyclic a span) = None
-undefined_name (NothingToInline a span) = None
-undefined_name (NeverInlined a span) = None
-undefined_name (Repeated later first) = None
-undefined_name NoStart = None
-undefined_name (StartUsed p) = None
+-- ---- the missing name
+-- the name without a production of a warning, in the place of which another may be meant: an undefined
+-- nonterminal, or the start symbol. There is none for other warnings
+abbrev pub missing_name : NonterminalString → Doubt → Option NonterminalString
+missing_name start (Undefined a p) = Some a
+missing_name start (Unreachable a span) = None
+missing_name start (Unproductive a span) = None
+missing_name start (Cyclic a span) = None
+missing_name start (NothingToInline a span) = None
+missing_name start (NeverInlined a span) = None
+missing_name start (Repeated later first) = None
+missing_name start NoStart = Some start
+missing_name start (StartUsed p) = None

@@ -1,7 +1,7 @@
 //! The way from a cyclic nonterminal back to itself.
 ghost use Rattle.std.specs.Prelude.{◌≡◌, ◌↔◌, ◌<◌, ◌+◌, ◌∷◌, [], Contains, IfOk, IfSome, IsTrue, OnOk, Some, drop, length, slice_get, take};
 ghost use Rattle.lalrpop_grammar.specs.grammars.Grammar.{IsNullable};
-ghost use Rattle.lalrpop_grammar.specs.grammars.WellFormed.{IsWellFormed, rules_of};
+ghost use Rattle.lalrpop_grammar.specs.grammars.WellFormed.{rules_of};
 ghost use Rattle.lalrpop_useful.specs.useful.Cycles.{IsAlone, IsAloneAt};
 ghost use Rattle.grammar_diagnostics.specs.CyclePaths.{AddsSuch, AreSteps, HasStepAt, IsUnitCycle, LeadsAlone, LeadsToEach, names_now};
 
@@ -13,40 +13,53 @@ use lalrpop_grammar::repr::{NonterminalString, Symbol};
 use std::alloc::Global;
 use std::collections::VecDeque;
 
-// A nonterminal that is found, and the place of the step that leads to it.
+// A nonterminal that is found, the place of the step that leads to it, and the number of steps from
+// the first one.
 #[derive(Clone, Copy)]
 pub(crate) struct Step<'grammar> {
     pub(crate) name: &'grammar NonterminalString,
     pub(crate) from: usize,
+    pub(crate) depth: usize,
 }
 
 /// A list of nonterminals that begins and ends with one, and in which each has a production with
-/// the next alone: all around it is nullable. No such list is shorter. `None` if there is no such
-/// list. `OutOfMemory` if an allocation fails.
+/// the next alone: all around it is nullable. `sets` are the FIRST sets of the grammar. No such list
+/// is shorter. `None` if there is no such list of at most `most` steps. `OutOfMemory` if an
+/// allocation fails.
 pub fn unit_cycle<'grammar>(
     alloc: Global,
     grammar: &'grammar Grammar,
+    sets: &FirstSets<'_>,
     name: &'grammar NonterminalString,
+    most: usize,
 ) -> Result<Option<VecDeque<&'grammar NonterminalString>>, OutOfMemory>
-    requires { IsWellFormed grammar.now }
+    requires { sets.now ≡ rules_of grammar.now }
     ensures { IfOk result (λ found. IfSome found
         (λ path. IsUnitCycle grammar.now name.now (names_now path.items))) }
 {
-    let sets = FirstSets::new(alloc, grammar)?;
     let mut steps = Vec::new(alloc);
-    steps.push(Step { name, from: 0 })?;
+    steps.push(Step {
+        name,
+        from: 0,
+        depth: 0,
+    })?;
     for place in 0..grammar.nonterminals.len() {
         if place >= steps.len() {
             return Ok(None);
         }
-        let parent = step_at(steps.as_slice(), place).name;
-        let found = alone_after(alloc, grammar, &sets, parent)?;
+        let step = step_at(steps.as_slice(), place);
+        if step.depth >= most {
+            return Ok(None);
+        }
+        let parent = step.name;
+        let found = alone_after(alloc, grammar, sets, parent)?;
         let next = found.as_slice();
         if has_name(next, name) {
             let path = path_to(alloc, grammar, name, steps.as_slice(), parent, place)?;
             return Ok(Some(path));
         }
-        add_steps(grammar, name, parent, place, next, &mut steps)?;
+        let depth = step.depth + 1;
+        add_steps(grammar, name, parent, place, depth, next, &mut steps)?;
     }
     Ok(None)
 }
@@ -164,6 +177,7 @@ fn add_steps<'grammar>(
     first: &NonterminalString,
     parent: &NonterminalString,
     place: usize,
+    depth: usize,
     names: &[&'grammar NonterminalString],
     steps: &mut Vec<Step<'grammar>>,
 ) -> Result<(), OutOfMemory>
@@ -173,7 +187,7 @@ fn add_steps<'grammar>(
     ensures { OnOk result (AreSteps grammar.now first.now steps.new.items) }
 {
     for name in names {
-        add_step(grammar, first, parent, place, name, steps)?;
+        add_step(grammar, first, parent, place, depth, name, steps)?;
     }
     Ok(())
 }
@@ -184,6 +198,7 @@ fn add_step<'grammar>(
     first: &NonterminalString,
     parent: &NonterminalString,
     place: usize,
+    depth: usize,
     name: &'grammar NonterminalString,
     steps: &mut Vec<Step<'grammar>>,
 ) -> Result<(), OutOfMemory>
@@ -196,7 +211,11 @@ fn add_step<'grammar>(
     if grammar.productions_for(name).is_empty() || has_step(steps, name) {
         return Ok(());
     }
-    steps.push(Step { name, from: place })?;
+    steps.push(Step {
+        name,
+        from: place,
+        depth,
+    })?;
     Ok(())
 }
 

@@ -6,7 +6,8 @@
 //! - `warnings`: what is doubtful with a grammar.
 //! - `cycle`: the way from a cyclic nonterminal back to itself.
 //! - `messages`, `nearest`: warnings in words, and the name that may be meant by an undefined one.
-//! - `places`, `warning_places`: the numbers of lines, and the place of a warning.
+//! - `places`, `text_lines`: the numbers of lines, and the lines of a text.
+//! - `warning_places`: the place of a warning, and that of a name.
 #![tactic(auto)]
 
 pub mod cycle;
@@ -19,5 +20,6 @@ pub mod places;
 pub mod reason;
 mod tests;
 pub mod text_errors;
+pub mod text_lines;
 pub mod warning_places;
 pub mod warnings;

@@ -1,6 +1,6 @@
 //! Warnings in words.
 ghost use Rattle.std.specs.Prelude.{◌≡◌, IfOk, option_map, string_bytes};
-ghost use Rattle.grammar_diagnostics.specs.Messages.{doubt_text, message, name_now, undefined_way_out, usual_way_out, way_out};
+ghost use Rattle.grammar_diagnostics.specs.Messages.{doubt_text, message, name_now, usual_way_out, way_out};
 ghost use Rattle.grammar_diagnostics.specs.Warnings.{warning_view};
 
 use crate::places::line_at;
@@ -10,7 +10,7 @@ use lalrpop_grammar::repr::NonterminalString;
 use std::alloc::Global;
 
 /// A warning in words: what is doubtful, and a way out. `text` is the text of the grammar, `start`
-/// the start symbol, and `near` a name that may be meant by an undefined one.
+/// the start symbol, and `near` a name that may be meant, as `suggestion` returns it.
 pub fn message(
     alloc: Global,
     text: &str,
@@ -60,7 +60,7 @@ pub fn doubt_text(
     }
 }
 
-/// A way out of a warning, in words. `near` is a name that may be meant by an undefined one.
+/// A way out of a warning, in words. `near` is a name that may be meant, as `suggestion` returns it.
 pub fn way_out(
     alloc: Global,
     near: Option<&NonterminalString>,
@@ -69,19 +69,8 @@ pub fn way_out(
     ensures { IfOk result (λ words. string_bytes words
         ≡ way_out (option_map name_now near.entry) (warning_view warning.now)) }
 {
-    if warning.undefined_name().is_some() {
-        return undefined_way_out(alloc, near);
-    }
-    Ok(String::from_str(alloc, usual_way_out(warning))?)
-}
-
-// The way out of an undefined nonterminal.
-fn undefined_way_out(alloc: Global, near: Option<&NonterminalString>) -> Result<String, OutOfMemory>
-    ensures { IfOk result (λ words. string_bytes words
-        ≡ undefined_way_out (option_map name_now near.entry)) }
-{
     match near {
-        None => Ok(String::from_str(alloc, "write one, or mend the name")?),
+        None => Ok(String::from_str(alloc, usual_way_out(warning))?),
         Some(other) => Ok(format!(in alloc; "perhaps `{other}` is meant")?),
     }
 }

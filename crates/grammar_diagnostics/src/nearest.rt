@@ -1,4 +1,4 @@
-//! The name that may be meant by an undefined one.
+//! The name that may be meant by one without a production.
 ghost use Rattle.std.specs.Prelude.{◌≡◌, ◌<◌, ◌^◌, ◌&&◌, IfOk, nat_lt, option_copied};
 ghost use Rattle.lalrpop_grammar.specs.grammars.WellFormed.{IsWellFormed};
 ghost use Rattle.grammar_diagnostics.specs.Nearest.{IsNearestResult, name_distance, name_reach, near_view, nearer_of, nearest_name, suggested};
@@ -102,22 +102,26 @@ fn distance(
     Ok(edits)
 }
 
-/// The name that may be meant by that of a warning: the nearest to an undefined one. `None` for
-/// other warnings. `OutOfMemory` if an allocation fails.
+/// The name that may be meant by that of a warning: the nearest to an undefined one, or to a start
+/// symbol without a production. `None` for other warnings. `OutOfMemory` if an allocation fails.
 pub fn suggestion<'grammar>(
     alloc: Global,
     grammar: &'grammar Grammar,
+    start: &NonterminalString,
     warning: &Warning<'_>,
 ) -> Result<Option<&'grammar NonterminalString>, OutOfMemory>
-    requires { IsWellFormed grammar.now }
     ensures { IfOk result
-        (λ near. option_copied near ≡ suggested grammar.now (warning_view warning.now)) }
+        (λ near. option_copied near ≡ suggested grammar.now start.now (warning_view warning.now)) }
 {
-    match warning.undefined_name() {
-        None => Ok(None),
-        Some(name) => {
-            let near = nearest_name(alloc, grammar, name)?;
-            Ok(near)
-        }
+    match warning {
+        Warning::Undefined(name, _) => first_nearest(alloc, grammar, name),
+        Warning::Unreachable(_, _) => Ok(None),
+        Warning::Unproductive(_, _) => Ok(None),
+        Warning::Cyclic(_, _) => Ok(None),
+        Warning::NothingToInline(_, _) => Ok(None),
+        Warning::NeverInlined(_, _) => Ok(None),
+        Warning::Repeated(_, _) => Ok(None),
+        Warning::NoStart => first_nearest(alloc, grammar, start),
+        Warning::StartUsed(_) => Ok(None),
     }
 }

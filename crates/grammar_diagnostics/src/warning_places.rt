@@ -1,12 +1,14 @@
-//! The place of the word that a warning is about.
-ghost use Rattle.std.specs.Prelude.{◌≡◌, ◌≤◌, ◌<◌, ◌+◌, ◌^◌, IfOk, Some, find, length, map, option_map};
+//! The place of the word that a warning is about, and that of a name.
+ghost use Rattle.std.specs.Prelude.{◌≡◌, ◌≤◌, ◌<◌, ◌+◌, ◌^◌, IfOk, Some, length, map, option_map};
 ghost use Rattle.grammar_diagnostics.specs.Pieces.{piece_view};
-ghost use Rattle.grammar_diagnostics.specs.Warnings.{doubt_span, warning_view};
-ghost use Rattle.grammar_diagnostics.specs.WarningPlaces.{ends_after, first_word, is_sign, is_word_of, named_words, other_words, place_on, warning_place, word_about, word_of, word_place};
+ghost use Rattle.grammar_diagnostics.specs.TextLines.{AreTextLines};
+ghost use Rattle.grammar_diagnostics.specs.Warnings.{warning_view};
+ghost use Rattle.grammar_diagnostics.specs.WarningPlaces.{first_word, is_equals_sign, is_word_of, name_place, named_words, other_words, place_on, warning_place, word_about, word_of, word_place};
 
-use crate::pieces::{Piece, placed_pieces, placed_words};
+use crate::pieces::{Piece, placed_words};
 use crate::places::line_at;
 use crate::text_errors::column_of;
+use crate::text_lines::TextLines;
 use crate::warnings::Warning;
 use grammar_text::lines::before_cr;
 use lalrpop_collections::memory::OutOfMemory;
@@ -24,22 +26,22 @@ pub struct Place {
     pub span: Span,
 }
 
-/// The place of the word that a warning is about. `text` is the text of the grammar, and `start` the
-/// start symbol. If there is no such word, the column is 1, and the span is that of the warning.
-/// `OutOfMemory` if an allocation fails.
+/// The place of the word that a warning is about. `lines` are those of the text of the grammar, and
+/// `start` is the start symbol. If there is no such word, the column is 1, and the span is that of
+/// the warning. `OutOfMemory` if an allocation fails.
 pub fn warning_place(
     alloc: Global,
-    text: &str,
+    lines: &TextLines<'_>,
     start: &NonterminalString,
     warning: &Warning<'_>,
 ) -> Result<Place, OutOfMemory>
+    requires { AreTextLines lines.now }
     ensures { IfOk result
-        (λ place. place ≡ warning_place text.now start.now (warning_view warning.now)) }
+        (λ place. place ≡ warning_place lines.now.text.now start.now (warning_view warning.now)) }
 {
     let span = warning.span();
-    let number = line_at(text, span.0);
-    let lines = placed_pieces(alloc, 0, text, '\n')?;
-    match line_with(&lines, span.0) {
+    let number = line_at(lines.text(), span.0);
+    match lines.line_with(span.0) {
         None => Ok(Place {
             line: number,
             column: 1,
@@ -52,23 +54,19 @@ pub fn warning_place(
     }
 }
 
-// The line in which an offset is.
-fn line_with<'t>(lines: &[Piece<'t>], offset: usize) -> Option<Piece<'t>>
-    ensures { option_map piece_view result ≡ find (ends_after offset) (map piece_view lines.now) }
+/// The place of a name in the line in which a span begins: that of the left side of a production, or
+/// of the name of a mark. If the name is neither, the column is 1. `OutOfMemory` if an allocation
+/// fails.
+pub fn name_place(
+    alloc: Global,
+    lines: &TextLines<'_>,
+    name: &NonterminalString,
+    span: Span,
+) -> Result<Place, OutOfMemory>
+    requires { AreTextLines lines.now }
+    ensures { IfOk result (λ place. place ≡ name_place lines.now.text.now name.now span) }
 {
-    for line in lines {
-        if ends_after(offset, line) {
-            return Some(*line);
-        }
-    }
-    None
-}
-
-// Whether an offset is not after the end of a line.
-fn ends_after(offset: usize, line: &Piece<'_>) -> bool
-    ensures { result ≡ ends_after offset (piece_view line.now) }
-{
-    offset.saturating_sub(line.start) <= line.text.len()
+    warning_place(alloc, lines, name, &Warning::Unproductive(name, span))
 }
 
 // The place of a warning in its line.
@@ -136,15 +134,15 @@ fn word_about<'t>(
 fn named_words<'a, 't>(words: &'a [Piece<'t>]) -> &'a [Piece<'t>]
     ensures { map piece_view result.now ≡ named_words (map piece_view words.now) }
 {
-    if is_sign(first_word(other_words(words))) {
+    if is_equals_sign(first_word(other_words(words))) {
         return words;
     }
     other_words(words)
 }
 
 // Whether a word is the sign of a production.
-fn is_sign(word: Option<Piece<'_>>) -> bool
-    ensures { result ≡ is_sign (option_map piece_view word.entry) }
+fn is_equals_sign(word: Option<Piece<'_>>) -> bool
+    ensures { result ≡ is_equals_sign (option_map piece_view word.entry) }
 {
     match word {
         None => false,

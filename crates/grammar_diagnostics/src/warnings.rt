@@ -1,8 +1,9 @@
 //! What is doubtful with a grammar.
-ghost use Rattle.std.specs.Prelude.{◌≡◌, ◌↔◌, ◌++◌, Contains, IfOk, OnOk, map, option_copied};
+ghost use Rattle.std.specs.Prelude.{◌≡◌, ◌↔◌, ◌++◌, Contains, IfOk, OnOk, map};
 ghost use Rattle.std.specs.List.{flat_map};
-ghost use Rattle.lalrpop_grammar.specs.grammars.WellFormed.{IsWellFormed, productions};
-ghost use Rattle.grammar_diagnostics.specs.Warnings.{Doubt, IsWarning, entry_warnings, repeat_warning, doubt_span, start_warnings, undefined_name, use_warning, warning_view, when};
+ghost use Rattle.lalrpop_grammar.specs.grammars.WellFormed.{IsWellFormed, productions, productions_of};
+ghost use Rattle.grammar_text.specs.Lines.{is_empty};
+ghost use Rattle.grammar_diagnostics.specs.Warnings.{Doubt, IsWarning, entry_warnings, repeat_warning, doubt_span, start_warnings, use_warning, warning_view, when};
 
 use crate::tests::{first_use, is_defined, is_marked, set_has};
 use lalrpop_collections::memory::OutOfMemory;
@@ -21,7 +22,7 @@ use std::alloc::Global;
 pub enum Warning<'grammar> {
     /// A nonterminal without a production, and the first production whose right side has it.
     Undefined(&'grammar NonterminalString, &'grammar Production),
-    /// A nonterminal that is in no list that the start symbol derives.
+    /// A nonterminal that is in no list that the start symbol derives, if that has a production.
     Unreachable(&'grammar NonterminalString, Span),
     /// A nonterminal that derives no list of terminals.
     Unproductive(&'grammar NonterminalString, Span),
@@ -59,28 +60,11 @@ impl Warning<'_> {
     }
 }
 
-impl<'grammar> Warning<'grammar> {
-    /// The undefined nonterminal that the warning is about. `None` for other warnings.
-    pub fn undefined_name(&self) -> Option<&'grammar NonterminalString>
-        ensures { option_copied result ≡ undefined_name (warning_view self.now) }
-    {
-        match self {
-            Warning::Undefined(name, _) => Some(*name),
-            Warning::Unreachable(_, _) => None,
-            Warning::Unproductive(_, _) => None,
-            Warning::Cyclic(_, _) => None,
-            Warning::NothingToInline(_, _) => None,
-            Warning::NeverInlined(_, _) => None,
-            Warning::Repeated(_, _) => None,
-            Warning::NoStart => None,
-            Warning::StartUsed(_) => None,
-        }
-    }
-}
-
-// The nonterminals that the start symbol reaches, the productive ones, and the cyclic ones.
+// Whether the start symbol has a production, the nonterminals that it reaches, the productive ones,
+// and the cyclic ones.
 #[derive(Drop)]
 pub(crate) struct Sets {
+    pub(crate) has_start: bool,
     pub(crate) reachable: NameSet,
     pub(crate) productive: NameSet,
     pub(crate) cyclic: NameSet,
@@ -114,6 +98,7 @@ fn found<'grammar>(
         Contains (map warning_view all.items) w ↔ IsWarning grammar.now start.now w) }
 {
     let sets = Sets {
+        has_start: !has_none(grammar, start),
         reachable: reachable(alloc, grammar, start)?,
         productive: productive(alloc, grammar)?,
         cyclic: cyclic_names(alloc, grammar)?,
@@ -187,7 +172,8 @@ fn push_entry<'grammar>(
     let span = entry.span;
     let defined = is_defined(entry);
     let marked = is_marked(entry);
-    let unreachable = defined && !set_has(&sets.reachable, name);
+    let unreached = defined && !set_has(&sets.reachable, name);
+    let unreachable = sets.has_start && unreached;
     push_if(unreachable, Warning::Unreachable(name, span), all)?;
     let unproductive = defined && !set_has(&sets.productive, name);
     push_if(unproductive, Warning::Unproductive(name, span), all)?;
@@ -201,8 +187,8 @@ fn push_entry<'grammar>(
         Warning::NothingToInline(name, span),
         all,
     )?;
-    let unused = first_use(grammar, name).is_none();
-    push_if(marked && unused, Warning::NeverInlined(name, span), all)?;
+    let unused = marked && first_use(grammar, name).is_none();
+    push_if(unused, Warning::NeverInlined(name, span), all)?;
     Ok(())
 }
 
@@ -215,12 +201,18 @@ fn push_start<'grammar>(
     ensures { OnOk result (map warning_view all.new.items
         ≡ map warning_view all.old.items ++ start_warnings grammar.now start.now) }
 {
-    let undefined = grammar.productions_for(start).is_empty();
-    push_if(undefined, Warning::NoStart, all)?;
+    push_if(has_none(grammar, start), Warning::NoStart, all)?;
     if let Some(production) = first_use(grammar, start) {
         all.push(Warning::StartUsed(production))?;
     }
     Ok(())
+}
+
+// Whether a nonterminal has no production.
+fn has_none(grammar: &Grammar, name: &NonterminalString) -> bool
+    ensures { result ≡ is_empty (productions_of grammar.now name.now) }
+{
+    grammar.productions_for(name).is_empty()
 }
 
 // Adds a warning, if a test holds.

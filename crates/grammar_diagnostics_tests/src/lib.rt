@@ -1,5 +1,6 @@
 //! Tests of `grammar_diagnostics`: faulty lines with their messages, warnings that hold and do not
-//! hold, the places of warnings, names that may be meant, and ways back to cyclic nonterminals.
+//! hold, the places of warnings, names that may be meant, ways back to cyclic nonterminals, and all
+//! calls while allocations are refused.
 #![tactic(auto)]
 
 #[cfg(test)]
@@ -8,5 +9,7 @@ mod cycles;
 mod doubts;
 #[cfg(test)]
 mod faults;
+#[cfg(test)]
+mod growths;
 #[cfg(test)]
 mod places;

@@ -1,7 +1,8 @@
 // The places of warnings, and their ways out, worked out by hand.
 use grammar_diagnostics::messages::{doubt_text, way_out};
 use grammar_diagnostics::nearest::suggestion;
-use grammar_diagnostics::warning_places::warning_place;
+use grammar_diagnostics::text_lines::TextLines;
+use grammar_diagnostics::warning_places::{name_place, warning_place};
 use grammar_diagnostics::warnings::warnings;
 use grammar_text::grammar::read;
 use grammar_text::symbols::name_of;
@@ -12,9 +13,10 @@ use std::test::Fail;
 fn places(alloc: Global, text: &str) -> Result<String, Fail> {
     let grammar = read(alloc, text)?;
     let start = name_of(alloc, "S")?;
+    let lines = TextLines::new(alloc, text)?;
     let mut all = String::new(alloc);
     for warning in &warnings(alloc, &grammar, &start)? {
-        let place = warning_place(alloc, text, &start, warning)?;
+        let place = warning_place(alloc, &lines, &start, warning)?;
         let span = place.span;
         write!(
             all,
@@ -54,13 +56,48 @@ fn places_of_warnings(rt: HostRuntime) -> Result<(), Fail> {
     Ok(())
 }
 
-// What is doubtful and the way out of each warning of a text with the start symbol `S`.
-fn ways_out(alloc: Global, text: &str) -> Result<String, Fail> {
+// The places of the left sides of all productions of a text.
+fn left_sides(alloc: Global, text: &str) -> Result<String, Fail> {
     let grammar = read(alloc, text)?;
-    let start = name_of(alloc, "S")?;
+    let lines = TextLines::new(alloc, text)?;
+    let mut all = String::new(alloc);
+    for (name, entry) in grammar.nonterminals.iter() {
+        for production in &entry.productions {
+            let place = name_place(alloc, &lines, name, production.span)?;
+            let span = place.span;
+            write!(
+                all,
+                "{}:{} {}-{}, ",
+                place.line, place.column, span.0, span.1
+            )?;
+        }
+    }
+    Ok(all)
+}
+
+#[test]
+fn places_of_left_sides(rt: HostRuntime) -> Result<(), Fail> {
+    let alloc = rt.alloc();
+    for (text, expected) in [
+        (
+            "S = A\n\r\n  A = \"\u{e9}\"\r\nS = S\n",
+            "3:3 10-11, 1:1 0-1, 4:1 20-21, ",
+        ),
+        ("\n\n\tS =", "3:2 3-4, "),
+        ("", ""),
+    ] {
+        assert_eq!(rt; left_sides(alloc, text)?.as_str(), expected);
+    }
+    Ok(())
+}
+
+// What is doubtful and the way out of each warning of a text with a start symbol.
+fn ways_out(alloc: Global, text: &str, start: &str) -> Result<String, Fail> {
+    let grammar = read(alloc, text)?;
+    let start = name_of(alloc, start)?;
     let mut all = String::new(alloc);
     for warning in &warnings(alloc, &grammar, &start)? {
-        let near = suggestion(alloc, &grammar, warning)?;
+        let near = suggestion(alloc, &grammar, &start, warning)?;
         let doubt = doubt_text(alloc, text, &start, warning)?;
         let hint = way_out(alloc, near, warning)?;
         write!(all, "{doubt} | {hint}\n")?;
@@ -106,7 +143,34 @@ const WAYS_OUT: [(&str, &str); 7] = [
 fn names_that_may_be_meant(rt: HostRuntime) -> Result<(), Fail> {
     let alloc = rt.alloc();
     for (text, expected) in WAYS_OUT {
-        assert_eq!(rt; ways_out(alloc, text)?.as_str(), expected);
+        assert_eq!(rt; ways_out(alloc, text, "S")?.as_str(), expected);
+    }
+    Ok(())
+}
+
+// Start symbols without a production: a name is near, none is, and the name is on a right side, too.
+// No nonterminal is said to be unreachable.
+#[test]
+fn start_symbols_that_may_be_meant(rt: HostRuntime) -> Result<(), Fail> {
+    let alloc = rt.alloc();
+    for (text, start, expected) in [
+        (
+            "Sum = \"s\"\nTerm = \"t\"",
+            "Sun",
+            "`Sun` has no production | perhaps `Sum` is meant\n",
+        ),
+        (
+            "Sum = \"s\"",
+            "Term",
+            "`Term` has no production | name another start symbol\n",
+        ),
+        (
+            "Sum = Sun\nSum =",
+            "Sun",
+            "`Sun` has no production | perhaps `Sum` is meant\n`Sun` has no production | perhaps `Sum` is meant\n`Sun` is on a right side | add a start symbol that is on none\n",
+        ),
+    ] {
+        assert_eq!(rt; ways_out(alloc, text, start)?.as_str(), expected);
     }
     Ok(())
 }

@@ -13,17 +13,17 @@ path_to-requires-clause-leads c =
 
 pub path_to-requires-clause-last : goal.path_to-requires-clause-last
 path_to-requires-clause-last c = record {
-  step = c.step_at.result;
-  there = subst (λ (steps : List Step). slice_get steps c.loop-place.place ≡ Some c.step_at.result) (c.as_slice.ensures.value ∙ sym c.as_slice-then-has_name.ensures.value) c.step_at.ensures;
+  step = c.step_at-step.result;
+  there = subst (λ (steps : List Step). slice_get steps c.loop-place.place ≡ Some c.step_at-step.result) (c.as_slice.ensures.value ∙ sym c.as_slice-then-has_name.ensures.value) c.step_at-step.ensures;
   named = refl;
 }
 
 pub add_steps-requires-clause-parent : goal.add_steps-requires-clause-parent
 add_steps-requires-clause-parent c = record {
-  step = c.step_at.result;
-  there = subst (λ (steps : List Step). slice_get steps c.loop-place.place ≡ Some c.step_at.result) c.as_slice.ensures.value c.step_at.ensures;
+  step = c.step_at-step.result;
+  there = subst (λ (steps : List Step). slice_get steps c.loop-place.place ≡ Some c.step_at-step.result) c.as_slice.ensures.value c.step_at-step.ensures;
   named = refl;
 }
 
 pub add_steps-requires-clause-leads : goal.add_steps-requires-clause-leads
-add_steps-requires-clause-leads c = subst (λ (names : List (Bor NonterminalString)). LeadsToEach c.args.grammar.now c.step_at.result.name.now (names_now names)) (sym c.as_slice-next.ensures.value) c.in_ok-found.ensures
+add_steps-requires-clause-leads c = subst (λ (names : List (Bor NonterminalString)). LeadsToEach c.args.grammar.now c.step_at-step.result.name.now (names_now names)) (sym c.as_slice-next.ensures.value) c.in_ok-found.ensures

@@ -1,4 +1,4 @@
-use Rattle.std.proofs.Common.{◌≡◌, List, ◌++◌, map, sym, ap, subst, ◌∙◌, append_assoc}
+use Rattle.std.proofs.Common.{◌≡◌, List, ◌++◌, map, not, sym, ap, subst, ◌∙◌, append_assoc}
 use Rattle.std.specs.Prelude.{Contains, ◌↔◌}
 use Rattle.std.specs.List.{flat_map}
 use Rattle.lalrpop_grammar.specs.Words.{productions}
@@ -14,7 +14,7 @@ pub returns : goal.returns
 returns c =
     let g = c.args.grammar.now in
     let start = c.args.start.now in
-    let sets : Sets = record { reachable = c.in_ok-reachable.field-0; productive = c.in_ok-productive.field-0; cyclic = c.in_ok-cyclic_names.field-0 } in
+    let sets : Sets = record { has_start = not c.has_none.result; reachable = c.in_ok-reachable.field-0; productive = c.in_ok-productive.field-0; cyclic = c.in_ok-cyclic_names.field-0 } in
     let uses = c.in_ok-uses.uses.items in
     let repeats = c.in_ok-repeats.repeats.items in
     let U : List Doubt = map use_warning uses in
@@ -29,5 +29,5 @@ returns c =
     let four : map warning_view c.push_start.new.all.items ≡ ((U ++ R) ++ E) ++ S = c.in_ok-push_start.ensures ∙ ap (λ (ds : List Doubt). ds ++ S) three in
     let same : map warning_view c.push_start.new.all.items ≡ U ++ (R ++ (E ++ S)) = four ∙ append_assoc (U ++ R) E S ∙ append_assoc U R (E ++ S) in
     let P : List Doubt → Type 0 = λ ds. (w : Doubt) → Contains ds w ↔ IsWarning g start w in
-    subst P (sym same) (found_iff g start c.requires c.len-names.ensures.ordered sets c.in_ok-reachable.ensures.reachable c.in_ok-productive.ensures.productive c.in_ok-cyclic_names.ensures.cyclic
+    subst P (sym same) (found_iff g start c.requires c.len-names.ensures.ordered sets (ap not c.has_none.ensures) c.in_ok-reachable.ensures.reachable c.in_ok-productive.ensures.productive c.in_ok-cyclic_names.ensures.cyclic
     uses c.in_ok-uses.ensures.undefined c.in_ok-uses.ensures.first repeats c.in_ok-repeats.ensures.repeats)
