@@ -13,8 +13,9 @@ def parse(data, limit, tokens):
         return f"conflicts: {len(data['conflicts'])}", 1
     productions = {it["number"]: it for it in data["productions"]}
     states = {it["number"]: it for it in data["states"]}
+    sets = data["sets"]
     reductions = {(state["number"], token): productions[it["production"]]
-                  for state in states.values() for it in state["reductions"] for token in it["lookahead"]}
+                  for state in states.values() for it in state["reductions"] for token in sets[it["lookahead"]]}
     stack, trees, left = [0], [], limit
     for token in [*tokens, None]:
         shown, target = "Eof" if token is None else f'"{token}"', None

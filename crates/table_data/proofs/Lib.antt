@@ -1,1 +1,4 @@
 pub mod Loops
+pub mod NamedSets
+pub mod NumberedSets
+pub mod PlainTexts

@@ -13,12 +13,13 @@ use Rattle.lalrpop_grammar.specs.declared.repr.Symbol.{Symbol}
 use Rattle.lalrpop_grammar.specs.declared.repr.Symbol.TheVariants.{Nonterminal, Terminal}
 use Rattle.lalrpop_grammar.specs.declared.repr.TerminalString.{TerminalString}
 use Rattle.lalrpop_grammar.specs.contracts.repr.TerminalStringPartialEq.TheImpl as terminal_eq
-use Rattle.lalrpop_lr1.specs.Words.{items_at}
+use Rattle.lalrpop_traces.specs.Words.{items_at}
 use Rattle.table_data.specs.declared.conflicts.ShownConflict.{ShownConflict}
 use Rattle.table_data.specs.declared.examples.ShownItem.{ShownItem}
 use Rattle.table_data.specs.Json.{array}
-use Rattle.table_data.specs.Names.{terminal_json, tokens_json}
+use Rattle.table_data.specs.Names.{terminal_json}
 use Rattle.table_data.specs.Examples.{shown_json}
+use Rattle.table_data.specs.Sets.{number_of}
 
 -- ---- the texts
 -- a reduction: the number of its production, and its items
@@ -34,9 +35,9 @@ abbrev pub action_json : Action → List ShownItem → List ℕ
 action_json (Shift t target) shown = shift_json t target shown
 action_json (Reduce p) shown = reduce_json p.now shown
 
--- a conflict: its state, its tokens, its reduction and its other action
-abbrev pub conflict_json : List TerminalString → ShownConflict → List ℕ
-conflict_json terminals shown = codes "{\"state\":" ++ (decimal shown.conflict.now.state.0 ++ (codes ",\"lookahead\":" ++ (tokens_json terminals shown.conflict.now.lookahead
+-- a conflict: its state, the number of the set of its tokens, its reduction and its other action
+abbrev pub conflict_json : List Bits → ShownConflict → List ℕ
+conflict_json sets shown = codes "{\"state\":" ++ (decimal shown.conflict.now.state.0 ++ (codes ",\"lookahead\":" ++ (decimal (number_of sets shown.conflict.now.lookahead)
     ++ (codes ",\"actions\":[" ++ (reduce_json shown.conflict.now.production.now shown.reduction.items ++ (codes "," ++ (action_json shown.conflict.now.action shown.other.items ++ codes "]}")))))))
 
 -- ---- the items that are shown

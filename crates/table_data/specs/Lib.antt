@@ -1,5 +1,7 @@
 pub mod Json
 pub mod Names
+pub mod Sets
+pub mod Naming
 pub mod Rules
 pub mod States
 pub mod Examples

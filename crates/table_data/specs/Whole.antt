@@ -10,25 +10,29 @@ use Rattle.table_data.specs.declared.conflicts.ShownConflict.{ShownConflict}
 use Rattle.table_data.specs.Causes.{AreShownCauses, cause_json}
 use Rattle.table_data.specs.Conflicts.{AreShown, conflict_json}
 use Rattle.table_data.specs.Json.{array}
-use Rattle.table_data.specs.Names.{name_json, terminal_json}
+use Rattle.table_data.specs.Names.{name_json, terminal_json, tokens_json}
+use Rattle.table_data.specs.Naming.{HasEachOnce, named_sets}
 use Rattle.table_data.specs.Rules.{production_json}
 use Rattle.table_data.specs.States.{state_json}
 
--- the text of a grammar, its start symbol, its states, and what is shown of its conflicts and their
--- causes
-abbrev pub tables_json : Grammar → NonterminalString → List (State Bits) → List ShownConflict → List ShownCause → List ℕ
-tables_json g start states shown causes = codes "{\"format\":\"lrshow\",\n\"version\":2,\n\"start\":" ++ (name_json start
+-- the text of a grammar, its start symbol, token sets, its states, and what is shown of its conflicts
+-- and their causes
+abbrev pub tables_json : Grammar → NonterminalString → List Bits → List (State Bits) → List ShownConflict → List ShownCause → List ℕ
+tables_json g start sets states shown causes = codes "{\"format\":\"lrshow\",\n\"version\":3,\n\"start\":" ++ (name_json start
     ++ (codes ",\n\"terminals\":" ++ (array (codes ",") terminal_json g.terminals
     ++ (codes ",\n\"productions\":" ++ (array (codes ",\n") production_json (productions g)
-    ++ (codes ",\n\"states\":" ++ (array (codes ",\n") (state_json g.terminals) states
-    ++ (codes ",\n\"conflicts\":" ++ (array (codes ",\n") (conflict_json g.terminals) shown
-    ++ (codes ",\n\"causes\":" ++ (array (codes ",\n") cause_json causes ++ codes "}\n")))))))))))
+    ++ (codes ",\n\"sets\":" ++ (array (codes ",\n") (tokens_json g.terminals) sets
+    ++ (codes ",\n\"states\":" ++ (array (codes ",\n") (state_json g.terminals sets) states
+    ++ (codes ",\n\"conflicts\":" ++ (array (codes ",\n") (conflict_json sets) shown
+    ++ (codes ",\n\"causes\":" ++ (array (codes ",\n") cause_json causes ++ codes "}\n")))))))))))))
 
--- a text is the JSON of a grammar, its start symbol and its states, with all conflicts and the
--- items of their actions
+-- a text is the JSON of a grammar, its start symbol and its states, with all conflicts, the items of
+-- their actions, and each token set that is named, once
 pub record IsData (g : Grammar) (start : NonterminalString) (states : List (State Bits)) (conflicts : List (Conflict Bits)) (text : List ℕ) : Type 0 where
   pub shown : List ShownConflict
   pub each : AreShown states conflicts shown
   pub causes : List ShownCause
   pub caused : AreShownCauses (productions g) states conflicts causes
-  pub is : text ≡ tables_json g start states shown causes
+  pub sets : List Bits
+  pub once : HasEachOnce (named_sets g.terminals states conflicts) sets
+  pub is : text ≡ tables_json g start sets states shown causes

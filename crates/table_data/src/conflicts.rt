@@ -4,11 +4,10 @@ ghost use Rattle.table_data.specs.Conflicts.{action_json, conflict_json, reduce_
 
 use super::examples::ShownItem;
 use super::lists::push_array;
-use super::names::push_tokens;
+use super::naming::Naming;
 use super::to_json::{ToJson, push_number};
 use lalrpop_base::lr1_core::state::{Action, Lr1Conflict, StateIndex};
 use lalrpop_base::memory::OutOfMemory;
-use lalrpop_base::repr::terminals::TerminalSet;
 use lalrpop_base::repr::{Production, TerminalString};
 use std::alloc::Global;
 
@@ -22,27 +21,27 @@ pub(crate) struct ShownConflict<'conflicts, 'grammar> {
 }
 
 impl<'conflicts, 'grammar> ToJson for ShownConflict<'conflicts, 'grammar> {
-    ghost json = { conflict_json };
+    ghost json = { λ naming shown. conflict_json naming.sets shown };
 
     fn push_json(
         &self,
         alloc: Global,
         text: &mut String,
-        terminals: &TerminalSet,
+        naming: &Naming<'_>,
     ) -> Result<(), OutOfMemory> {
         push_number(text, "{\"state\":", self.conflict.state.0)?;
-        text.push_str(",\"lookahead\":")?;
-        push_tokens(alloc, text, &self.conflict.lookahead, terminals)?;
+        let set = naming.sets.number_of(&self.conflict.lookahead);
+        push_number(text, ",\"lookahead\":", set)?;
         text.push_str(",\"actions\":[")?;
         push_reduce(
             alloc,
             text,
             self.conflict.production,
             &self.reduction,
-            terminals,
+            naming,
         )?;
         text.push_str(",")?;
-        push_action(alloc, text, &self.conflict.action, &self.other, terminals)?;
+        push_action(alloc, text, &self.conflict.action, &self.other, naming)?;
         text.push_str("]}")?;
         Ok(())
     }
@@ -54,16 +53,16 @@ fn push_action(
     text: &mut String,
     action: &Action<'_>,
     shown: &[ShownItem],
-    terminals: &TerminalSet,
+    naming: &Naming<'_>,
 ) -> Result<(), OutOfMemory>
     ensures { OnOk result
         (string_bytes text.new ≡ string_bytes text.old ++ action_json action.now shown.now) }
 {
     match action {
         Action::Shift(terminal, target) => {
-            push_shift(alloc, text, terminal, *target, shown, terminals)
+            push_shift(alloc, text, terminal, *target, shown, naming)
         }
-        Action::Reduce(production) => push_reduce(alloc, text, *production, shown, terminals),
+        Action::Reduce(production) => push_reduce(alloc, text, *production, shown, naming),
     }
 }
 
@@ -73,14 +72,14 @@ fn push_reduce(
     text: &mut String,
     production: &Production,
     shown: &[ShownItem],
-    terminals: &TerminalSet,
+    naming: &Naming<'_>,
 ) -> Result<(), OutOfMemory>
     ensures { OnOk result
         (string_bytes text.new ≡ string_bytes text.old ++ reduce_json production.now shown.now) }
 {
     push_number(text, "{\"reduce\":", production.action.index())?;
     text.push_str(",\"items\":")?;
-    push_array(alloc, text, ",", shown, terminals)?;
+    push_array(alloc, text, ",", shown, naming)?;
     text.push_str("}")?;
     Ok(())
 }
@@ -92,16 +91,16 @@ fn push_shift(
     terminal: &TerminalString,
     target: StateIndex,
     shown: &[ShownItem],
-    terminals: &TerminalSet,
+    naming: &Naming<'_>,
 ) -> Result<(), OutOfMemory>
     ensures { OnOk result (string_bytes text.new ≡ string_bytes text.old ++ shift_json
         terminal.now target shown.now) }
 {
     text.push_str("{\"shift\":")?;
-    terminal.push_json(alloc, text, terminals)?;
+    terminal.push_json(alloc, text, naming)?;
     push_number(text, ",\"state\":", target.0)?;
     text.push_str(",\"items\":")?;
-    push_array(alloc, text, ",", shown, terminals)?;
+    push_array(alloc, text, ",", shown, naming)?;
     text.push_str("}")?;
     Ok(())
 }

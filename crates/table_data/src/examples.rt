@@ -2,10 +2,10 @@
 ghost use Rattle.table_data.specs.Examples.{example_json, reduced_json, shown_json, word_json};
 
 use super::lists::push_array;
+use super::naming::Naming;
 use super::to_json::{ToJson, push_number};
 use lalrpop_base::memory::OutOfMemory;
-use lalrpop_base::repr::terminals::TerminalSet;
-use lalrpop_lr1::trace::{Example, ExampleSymbol, Reduction};
+use lalrpop_traces::trace::{Example, ExampleSymbol, Reduction};
 use std::alloc::Global;
 
 impl ToJson for ExampleSymbol {
@@ -15,10 +15,10 @@ impl ToJson for ExampleSymbol {
         &self,
         alloc: Global,
         text: &mut String,
-        terminals: &TerminalSet,
+        naming: &Naming<'_>,
     ) -> Result<(), OutOfMemory> {
         match self {
-            ExampleSymbol::Symbol(symbol) => symbol.push_json(alloc, text, terminals),
+            ExampleSymbol::Symbol(symbol) => symbol.push_json(alloc, text, naming),
             ExampleSymbol::Epsilon => {
                 text.push_str("null")?;
                 Ok(())
@@ -34,12 +34,12 @@ impl ToJson for Reduction {
         &self,
         alloc: Global,
         text: &mut String,
-        terminals: &TerminalSet,
+        naming: &Naming<'_>,
     ) -> Result<(), OutOfMemory> {
         push_number(text, "{\"start\":", self.start)?;
         push_number(text, ",\"end\":", self.end)?;
         text.push_str(",\"nonterminal\":")?;
-        self.nonterminal.push_json(alloc, text, terminals)?;
+        self.nonterminal.push_json(alloc, text, naming)?;
         text.push_str("}")?;
         Ok(())
     }
@@ -52,13 +52,13 @@ impl ToJson for Example {
         &self,
         alloc: Global,
         text: &mut String,
-        terminals: &TerminalSet,
+        naming: &Naming<'_>,
     ) -> Result<(), OutOfMemory> {
         text.push_str("{\"symbols\":")?;
-        push_array(alloc, text, ",", &self.symbols, terminals)?;
+        push_array(alloc, text, ",", &self.symbols, naming)?;
         push_number(text, ",\"place\":", self.cursor)?;
         text.push_str(",\"reductions\":")?;
-        push_array(alloc, text, ",", &self.reductions, terminals)?;
+        push_array(alloc, text, ",", &self.reductions, naming)?;
         text.push_str("}")?;
         Ok(())
     }
@@ -80,12 +80,12 @@ impl ToJson for ShownItem {
         &self,
         alloc: Global,
         text: &mut String,
-        terminals: &TerminalSet,
+        naming: &Naming<'_>,
     ) -> Result<(), OutOfMemory> {
         push_number(text, "{\"production\":", self.production)?;
         push_number(text, ",\"dot\":", self.dot)?;
         text.push_str(",\"examples\":")?;
-        push_array(alloc, text, ",", &self.examples, terminals)?;
+        push_array(alloc, text, ",", &self.examples, naming)?;
         text.push_str("}")?;
         Ok(())
     }

@@ -3,10 +3,10 @@ ghost use Rattle.std.specs.Prelude.{◌≡◌, ◌++◌, OnOk, codes, string_byt
 ghost use Rattle.std.specs.List.{flat_map};
 ghost use Rattle.table_data.specs.Json.{array, after_separator, separated, member, object};
 
+use super::naming::Naming;
 use super::to_json::ToJson;
 use lalrpop_base::lr1_core::state::StateIndex;
 use lalrpop_base::memory::OutOfMemory;
-use lalrpop_base::repr::terminals::TerminalSet;
 use std::alloc::Global;
 use std::collections::BTreeMap;
 
@@ -17,13 +17,13 @@ pub(crate) fn push_array<T: ToJson>(
     text: &mut String,
     separator: &str,
     values: &[T],
-    terminals: &TerminalSet,
+    naming: &Naming<'_>,
 ) -> Result<(), OutOfMemory>
     ensures { OnOk result (string_bytes text.new ≡ string_bytes text.old ++ array separator.now
-        (T.json terminals.now) values.now) }
+        (T.json naming.now) values.now) }
 {
     text.push_str("[")?;
-    push_listed(alloc, text, separator, values, terminals)?;
+    push_listed(alloc, text, separator, values, naming)?;
     text.push_str("]")?;
     Ok(())
 }
@@ -34,16 +34,16 @@ fn push_listed<T: ToJson>(
     text: &mut String,
     separator: &str,
     values: &[T],
-    terminals: &TerminalSet,
+    naming: &Naming<'_>,
 ) -> Result<(), OutOfMemory>
     ensures { OnOk result (string_bytes text.new ≡ string_bytes text.old ++ separated separator.now
-        (T.json terminals.now) values.now) }
+        (T.json naming.now) values.now) }
 {
     let [first, others @ ..] = values else {
         return Ok(());
     };
-    first.push_json(alloc, text, terminals)?;
-    push_others(alloc, text, separator, others, terminals)?;
+    first.push_json(alloc, text, naming)?;
+    push_others(alloc, text, separator, others, naming)?;
     Ok(())
 }
 
@@ -53,13 +53,13 @@ fn push_others<T: ToJson>(
     text: &mut String,
     separator: &str,
     values: &[T],
-    terminals: &TerminalSet,
+    naming: &Naming<'_>,
 ) -> Result<(), OutOfMemory>
     ensures { OnOk result (string_bytes text.new ≡ string_bytes text.old ++ flat_map
-        (after_separator separator.now (T.json terminals.now)) values.now) }
+        (after_separator separator.now (T.json naming.now)) values.now) }
 {
     for value in values {
-        push_other(alloc, text, separator, value, terminals)?;
+        push_other(alloc, text, separator, value, naming)?;
     }
     Ok(())
 }
@@ -70,13 +70,13 @@ fn push_other<T: ToJson>(
     text: &mut String,
     separator: &str,
     value: &T,
-    terminals: &TerminalSet,
+    naming: &Naming<'_>,
 ) -> Result<(), OutOfMemory>
     ensures { OnOk result (string_bytes text.new ≡
-        string_bytes text.old ++ after_separator separator.now (T.json terminals.now) value.now) }
+        string_bytes text.old ++ after_separator separator.now (T.json naming.now) value.now) }
 {
     text.push_str(separator)?;
-    value.push_json(alloc, text, terminals)?;
+    value.push_json(alloc, text, naming)?;
     Ok(())
 }
 
@@ -85,15 +85,15 @@ pub(crate) fn push_targets<K: Ord + ToJson>(
     alloc: Global,
     text: &mut String,
     targets: &BTreeMap<K, StateIndex>,
-    terminals: &TerminalSet,
+    naming: &Naming<'_>,
 ) -> Result<(), OutOfMemory>
     ensures { OnOk result (string_bytes text.new ≡ string_bytes text.old ++ object
-        (member (K.json terminals.now)) targets.now.entries) }
+        (member (K.json naming.now)) targets.now.entries) }
 {
     text.push_str("{")?;
     let mut separator = "";
     for (symbol, target) in targets.iter() {
-        push_target(alloc, text, separator, symbol, *target, terminals)?;
+        push_target(alloc, text, separator, symbol, *target, naming)?;
         separator = ",";
     }
     text.push_str("}")?;
@@ -107,14 +107,14 @@ fn push_target<K: ToJson>(
     separator: &str,
     symbol: &K,
     target: StateIndex,
-    terminals: &TerminalSet,
+    naming: &Naming<'_>,
 ) -> Result<(), OutOfMemory>
     ensures { OnOk result (string_bytes text.new ≡
         string_bytes text.old ++ after_separator separator.now
-        (member (K.json terminals.now)) (symbol.now, target)) }
+        (member (K.json naming.now)) (symbol.now, target)) }
 {
     text.push_str(separator)?;
-    symbol.push_json(alloc, text, terminals)?;
+    symbol.push_json(alloc, text, naming)?;
     write!(text, ":{target}")?;
     Ok(())
 }

@@ -4,6 +4,7 @@ ghost use Rattle.lalrpop_base.specs.Words.{seen};
 ghost use Rattle.table_data.specs.Json.{after_separator};
 ghost use Rattle.table_data.specs.Names.{name_json, of_kind, terminal_json, symbol_json, token_json, tokens_json};
 
+use super::naming::Naming;
 use super::to_json::{ToJson, push_quoted};
 use lalrpop_base::lookahead::token::TokenRef;
 use lalrpop_base::lookahead::token_set::TokenSet;
@@ -19,7 +20,7 @@ impl ToJson for NonterminalString {
         &self,
         alloc: Global,
         text: &mut String,
-        _terminals: &TerminalSet,
+        _naming: &Naming<'_>,
     ) -> Result<(), OutOfMemory> {
         push_quoted(alloc, text, self.text.as_str())
     }
@@ -32,13 +33,25 @@ impl ToJson for TerminalString {
         &self,
         alloc: Global,
         text: &mut String,
-        _terminals: &TerminalSet,
+        _naming: &Naming<'_>,
     ) -> Result<(), OutOfMemory> {
-        match self {
-            TerminalString::Literal(shown) => push_quoted(alloc, text, shown.as_str()),
-            TerminalString::Bare(shown) => push_quoted(alloc, text, shown.as_str()),
-            TerminalString::Error => push_quoted(alloc, text, "error"),
-        }
+        push_terminal(alloc, text, self)
+    }
+}
+
+// Appends a terminal.
+fn push_terminal(
+    alloc: Global,
+    text: &mut String,
+    terminal: &TerminalString,
+) -> Result<(), OutOfMemory>
+    ensures { OnOk result
+        (string_bytes text.new ≡ string_bytes text.old ++ terminal_json terminal.now) }
+{
+    match terminal {
+        TerminalString::Literal(shown) => push_quoted(alloc, text, shown.as_str()),
+        TerminalString::Bare(shown) => push_quoted(alloc, text, shown.as_str()),
+        TerminalString::Error => push_quoted(alloc, text, "error"),
     }
 }
 
@@ -49,11 +62,11 @@ impl ToJson for Symbol {
         &self,
         alloc: Global,
         text: &mut String,
-        terminals: &TerminalSet,
+        naming: &Naming<'_>,
     ) -> Result<(), OutOfMemory> {
         match self {
-            Symbol::Nonterminal(name) => push_kind(alloc, text, "nonterminal", name, terminals),
-            Symbol::Terminal(terminal) => push_kind(alloc, text, "terminal", terminal, terminals),
+            Symbol::Nonterminal(name) => push_kind(alloc, text, "nonterminal", name, naming),
+            Symbol::Terminal(terminal) => push_kind(alloc, text, "terminal", terminal, naming),
         }
     }
 }
@@ -64,19 +77,32 @@ fn push_kind<T: ToJson>(
     text: &mut String,
     kind: &str,
     symbol: &T,
-    terminals: &TerminalSet,
+    naming: &Naming<'_>,
 ) -> Result<(), OutOfMemory>
     ensures { OnOk result (string_bytes text.new ≡ string_bytes text.old ++ of_kind kind.now
-        (T.json terminals.now symbol.now)) }
+        (T.json naming.now symbol.now)) }
 {
     write!(text, "{{\"{kind}\":")?;
-    symbol.push_json(alloc, text, terminals)?;
+    symbol.push_json(alloc, text, naming)?;
     text.push_str("}")?;
     Ok(())
 }
 
-/// Appends an array of the tokens of a set, by ascending bit.
-pub(crate) fn push_tokens(
+impl ToJson for TokenSet {
+    ghost json = { λ naming set. tokens_json naming.terminals.now set };
+
+    fn push_json(
+        &self,
+        alloc: Global,
+        text: &mut String,
+        naming: &Naming<'_>,
+    ) -> Result<(), OutOfMemory> {
+        push_tokens(alloc, text, self, naming.terminals)
+    }
+}
+
+// Appends an array of the tokens of a set, by ascending bit.
+fn push_tokens(
     alloc: Global,
     text: &mut String,
     set: &TokenSet,
@@ -88,7 +114,7 @@ pub(crate) fn push_tokens(
     text.push_str("[")?;
     let mut separator = "";
     for token in set.iter(terminals) {
-        push_token(alloc, text, separator, token, terminals)?;
+        push_token(alloc, text, separator, token)?;
         separator = ",";
     }
     text.push_str("]")?;
@@ -101,7 +127,6 @@ fn push_token(
     text: &mut String,
     separator: &str,
     token: TokenRef<'_>,
-    terminals: &TerminalSet,
 ) -> Result<(), OutOfMemory>
     ensures { OnOk result (string_bytes text.new ≡
         string_bytes text.old ++ after_separator separator.now token_json (seen token.entry)) }
@@ -110,7 +135,7 @@ fn push_token(
     match token {
         TokenRef::Eof => text.push_str("null")?,
         TokenRef::Error => text.push_str("false")?,
-        TokenRef::Terminal(terminal) => terminal.push_json(alloc, text, terminals)?,
+        TokenRef::Terminal(terminal) => push_terminal(alloc, text, terminal)?,
     }
     Ok(())
 }

@@ -5,11 +5,11 @@ ghost use Rattle.table_data.specs.Json.{array};
 ghost use Rattle.table_data.specs.Rules.{production_json};
 
 use super::lists::push_array;
+use super::naming::Naming;
 use super::to_json::ToJson;
 use lalrpop_base::memory::OutOfMemory;
 use lalrpop_base::repr::Production;
 use lalrpop_base::repr::grammar::Grammar;
-use lalrpop_base::repr::terminals::TerminalSet;
 use std::alloc::Global;
 
 impl<'grammar> ToJson for &'grammar Production {
@@ -19,9 +19,9 @@ impl<'grammar> ToJson for &'grammar Production {
         &self,
         alloc: Global,
         text: &mut String,
-        terminals: &TerminalSet,
+        naming: &Naming<'_>,
     ) -> Result<(), OutOfMemory> {
-        push_production(alloc, text, self, terminals)
+        push_production(alloc, text, self, naming)
     }
 }
 
@@ -30,16 +30,16 @@ fn push_production(
     alloc: Global,
     text: &mut String,
     production: &Production,
-    terminals: &TerminalSet,
+    naming: &Naming<'_>,
 ) -> Result<(), OutOfMemory>
     ensures { OnOk result
         (string_bytes text.new ≡ string_bytes text.old ++ production_json production.now) }
 {
     let number = production.action.index();
     write!(text, "{{\"number\":{number},\"nonterminal\":")?;
-    production.nonterminal.push_json(alloc, text, terminals)?;
+    production.nonterminal.push_json(alloc, text, naming)?;
     text.push_str(",\"symbols\":")?;
-    push_array(alloc, text, ",", production.symbols.as_slice(), terminals)?;
+    push_array(alloc, text, ",", production.symbols.as_slice(), naming)?;
     text.push_str("}")?;
     Ok(())
 }
@@ -50,12 +50,13 @@ pub(crate) fn push_productions(
     alloc: Global,
     text: &mut String,
     grammar: &Grammar,
+    naming: &Naming<'_>,
 ) -> Result<(), OutOfMemory>
     ensures { OnOk result (string_bytes text.new ≡ string_bytes text.old ++ array (codes ",\n")
         production_json (productions grammar.now)) }
 {
     let all = productions_in(alloc, grammar)?;
-    push_array(alloc, text, ",\n", &all, &grammar.terminals)?;
+    push_array(alloc, text, ",\n", &all, naming)?;
     Ok(())
 }
 

@@ -1,6 +1,6 @@
 //! Examples of how the items of the actions of conflicts come about.
 ghost use Rattle.std.specs.Prelude.{◌≡◌, ◌++◌, Some, IfOk, OnOk, map, slice_get};
-ghost use Rattle.lalrpop_lr1.specs.Words.{items_at};
+ghost use Rattle.lalrpop_traces.specs.Words.{items_at};
 ghost use Rattle.table_data.specs.Conflicts.{AreShown, ShowsItems, is_terminal, place_if, place_of_shown, action_places, reduced_places, shifted_places, shifts};
 
 use super::conflicts::ShownConflict;
@@ -11,7 +11,7 @@ use lalrpop_base::lr1_core::state::{Action, Lr1Conflict, Lr1State, StateIndex};
 use lalrpop_base::memory::OutOfMemory;
 use lalrpop_base::repr::terminals::TerminalSet;
 use lalrpop_base::repr::{Production, Symbol, TerminalString};
-use lalrpop_lr1::trace::{Example, Tracer};
+use lalrpop_traces::trace::{Example, Tracer};
 use std::alloc::Global;
 
 // The greatest number of examples that are shown of an item.

@@ -7,6 +7,7 @@ ghost use Rattle.table_data.specs.Whole.{IsData};
 use super::causes::shown_causes;
 use super::conflicts::ShownConflict;
 use super::lists::push_array;
+use super::naming::naming_of;
 use super::rules::push_productions;
 use super::to_json::ToJson;
 use super::walks::{Context, shown_conflicts};
@@ -15,7 +16,7 @@ use lalrpop_base::lr1_core::state::{Lr1Conflict, Lr1State};
 use lalrpop_base::memory::OutOfMemory;
 use lalrpop_base::repr::NonterminalString;
 use lalrpop_base::repr::grammar::Grammar;
-use lalrpop_lr1::trace::Tracer;
+use lalrpop_traces::trace::Tracer;
 use std::alloc::Global;
 
 /// The JSON text of a grammar and its start symbol, with states and conflicts. The states are those
@@ -34,19 +35,22 @@ pub fn tables_json<'grammar>(
     let terminals = &grammar.terminals;
     let shown = shown_in(alloc, grammar, states, conflicts)?;
     let causes = shown_causes(alloc, grammar, states, conflicts)?;
+    let naming = naming_of(alloc, terminals, states, conflicts)?;
     let mut text = String::new(alloc);
-    text.push_str("{\"format\":\"lrshow\",\n\"version\":2,\n\"start\":")?;
-    start.push_json(alloc, &mut text, terminals)?;
+    text.push_str("{\"format\":\"lrshow\",\n\"version\":3,\n\"start\":")?;
+    start.push_json(alloc, &mut text, &naming)?;
     text.push_str(",\n\"terminals\":")?;
-    push_array(alloc, &mut text, ",", terminals.all(), terminals)?;
+    push_array(alloc, &mut text, ",", terminals.all(), &naming)?;
     text.push_str(",\n\"productions\":")?;
-    push_productions(alloc, &mut text, grammar)?;
+    push_productions(alloc, &mut text, grammar, &naming)?;
+    text.push_str(",\n\"sets\":")?;
+    push_array(alloc, &mut text, ",\n", naming.sets.as_slice(), &naming)?;
     text.push_str(",\n\"states\":")?;
-    push_array(alloc, &mut text, ",\n", states, terminals)?;
+    push_array(alloc, &mut text, ",\n", states, &naming)?;
     text.push_str(",\n\"conflicts\":")?;
-    push_array(alloc, &mut text, ",\n", &shown, terminals)?;
+    push_array(alloc, &mut text, ",\n", &shown, &naming)?;
     text.push_str(",\n\"causes\":")?;
-    push_array(alloc, &mut text, ",\n", &causes, terminals)?;
+    push_array(alloc, &mut text, ",\n", &causes, &naming)?;
     text.push_str("}\n")?;
     Ok(text)
 }

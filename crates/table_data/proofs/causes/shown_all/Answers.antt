@@ -3,6 +3,7 @@ use Rattle.std.proofs.lemmas.List.{map_push, take_more}
 use Rattle.std.specs.List.{All}
 use Rattle.std.proofs.lemmas.List.Elements.{All-push}
 use Rattle.std.proofs.lemmas.Option.{slice_get_read}
+use Rattle.lalrpop_ambiguity.specs.witnesses.Searches.{AreCommonMoves}
 use Rattle.lalrpop_base.specs.Words.{productions}
 use Rattle.table_data.specs.Causes.{HasWitness}
 use Rattle.table_data.specs.declared.causes.ShownCause.{ShownCause}
@@ -25,5 +26,6 @@ loop-cause-preserved c =
     let numbers : ShownCause → List ℕ = (λ (s : ShownCause). s.conflicts.items) in
     let grown : c.push.new.self.items ≡ shown ++ here ∷ [] = new.items in (
       ap (map numbers) grown ∙ map_push numbers shown here ∙ ap (λ (xs : List (List ℕ)). xs ++ numbers here ∷ []) c.loop-cause.invariant.0 ∙ ap (λ (x : List ℕ). take i all ++ x ∷ []) (c.in_ok-shown_cause.ensures.numbers ∙ c.cause-item.is) ∙ sym (take_more all i cause c.loop-cause-test.true),
-      subst (All (λ (s : ShownCause). HasWitness (productions c.args.grammar.now) s.search)) (sym grown) (All-push (λ (s : ShownCause). HasWitness (productions c.args.grammar.now) s.search) shown here c.loop-cause.invariant.1 c.in_ok-shown_cause.ensures.search),
+      subst (All (λ (s : ShownCause). HasWitness (productions c.args.finder.now.ground.grammar.now) s.search)) (sym grown) (All-push (λ (s : ShownCause). HasWitness (productions c.args.finder.now.ground.grammar.now) s.search) shown here c.loop-cause.invariant.1 c.in_ok-shown_cause.ensures.search),
+      subst (All (λ (s : ShownCause). AreCommonMoves s.moves s.search)) (sym grown) (All-push (λ (s : ShownCause). AreCommonMoves s.moves s.search) shown here c.loop-cause.invariant.2 c.in_ok-shown_cause.ensures.moves),
     )

@@ -8,5 +8,5 @@ pub loop-symbol-preserved : goal.loop-symbol-preserved
 unfolding encode
 loop-symbol-preserved g c = record {
   is_text = (44 ∷ [], (refl, refl));
-  whole = going_step (member (g.K.ToJson.json c.args.terminals.now)) _ _ _ _ _ _ _ c.in-Some.ensures.steps c.in_ok-push_target.ensures c.loop-symbol.invariant.whole;
+  whole = going_step (member (g.K.ToJson.json c.args.naming.now)) _ _ _ _ _ _ _ c.in-Some.ensures.steps c.in_ok-push_target.ensures c.loop-symbol.invariant.whole;
 }

@@ -11,5 +11,5 @@ returns c =
     before (string_bytes c.args.text.now) (codes "{\"production\":" ++ decimal c.args.self.now.production.action.0) _ _ (string_bytes c.push_number.new.text) _ (grew_by (λ (n : ℕ). codes "{\"production\":" ++ decimal n) _ _ _ _ c.in_ok-push_number.ensures (c.index.ensures ∙ number)) (
     before (string_bytes c.push_number.new.text) (codes ",\"dot\":" ++ decimal c.args.self.now.index) _ _ (string_bytes c.push_number-2.new.text) _ (grew_by (λ (n : ℕ). codes ",\"dot\":" ++ decimal n) _ _ _ _ c.in_ok-push_number-2.ensures dot) (
     before (string_bytes c.push_number-2.new.text) (codes ",\"lookahead\":") _ _ (string_bytes c.push_str.new.self) _ c.in_ok-push_str.ensures.bytes (
-    before (string_bytes c.push_str.new.self) (lookahead_json c.args.terminals.now c.args.self.now.lookahead) _ _ (string_bytes c.push_lookahead.new.text) _ (search (rules, c.in_ok-push_lookahead.ensures)) (
+    before (string_bytes c.push_str.new.self) (lookahead_json c.args.naming.now.terminals.now c.args.naming.now.sets c.args.self.now.lookahead) _ _ (string_bytes c.push_lookahead.new.text) _ (search (rules, c.in_ok-push_lookahead.ensures)) (
     c.in_ok-push_str-2.ensures.bytes) refl) refl) refl) refl
