@@ -5,7 +5,7 @@ use Rattle.lalrpop_parser.specs.Words.{HasPartialOutcome, PartialOutcome, Reads,
 use Rattle.lalrpop_parser.specs.runs.Reading.{read}
 use Rattle.lalrpop_grammar.specs.declared.repr.TerminalString.{TerminalString}
 use Rattle.lalrpop_grammar.proofs.theory.runs.Steps.{Halts, ends_halts, stands_halts, goes_on_from, same_goes}
-use Rattle.parse_pictures.specs.NextTokens.{AreNext, DoesNotGoOn, GoesOn, IsAllShifted, next_first, no_next, other_first}
+use Rattle.parse_pictures.specs.NextTokens.{AreNext, DoesNotShiftAll, ShiftsAll, IsAllShifted, next_first, no_next, other_first}
 
 -- a run that shifts all of a list is at no configuration with a terminal left from which it does
 -- not go on, nor at one after as many steps
@@ -35,13 +35,13 @@ stop_or_stack {states} {b} {limit} o stop shifted = go (Stop o) (Stack shifted.0
     go _ _ (stopped u h) (stopped v k) f g = cc
 
 -- one more terminal with which the beginning goes on
-pub next_after : {states : ℕ → Contents} {limit : ℕ} {w : List TerminalString} {ts us : List TerminalString} (t : TerminalString) → GoesOn states limit (w ++ t ∷ []) → AreNext states limit w ts us → AreNext states limit w (ts ++ t ∷ []) (us ++ t ∷ [])
+pub next_after : {states : ℕ → Contents} {limit : ℕ} {w : List TerminalString} {ts us : List TerminalString} (t : TerminalString) → ShiftsAll states limit (w ++ t ∷ []) → AreNext states limit w ts us → AreNext states limit w (ts ++ t ∷ []) (us ++ t ∷ [])
 next_after t goes no_next = next_first t [] [] goes no_next
 next_after t goes (next_first x ts us h k) = next_first x (ts ++ t ∷ []) (us ++ t ∷ []) h (next_after t goes k)
 next_after t goes (other_first x ts us h k) = other_first x (ts ++ t ∷ []) (us ++ t ∷ []) h (next_after t goes k)
 
 -- one more terminal with which it does not
-pub other_after : {states : ℕ → Contents} {limit : ℕ} {w : List TerminalString} {ts us : List TerminalString} (t : TerminalString) → DoesNotGoOn states limit (w ++ t ∷ []) → AreNext states limit w ts us → AreNext states limit w (ts ++ t ∷ []) us
+pub other_after : {states : ℕ → Contents} {limit : ℕ} {w : List TerminalString} {ts us : List TerminalString} (t : TerminalString) → DoesNotShiftAll states limit (w ++ t ∷ []) → AreNext states limit w ts us → AreNext states limit w (ts ++ t ∷ []) us
 other_after t stops no_next = other_first t [] [] stops no_next
 other_after t stops (next_first x ts us h k) = next_first x (ts ++ t ∷ []) us h (other_after t stops k)
 other_after t stops (other_first x ts us h k) = other_first x (ts ++ t ∷ []) us h (other_after t stops k)

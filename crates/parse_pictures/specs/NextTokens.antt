@@ -11,20 +11,20 @@ IsAllShifted states limit w = (stack : List ℕ) × HasPartialOutcome states (be
 
 -- the run on a list shifts all of it. If the states are faithful, the list is a beginning of a
 -- sentence
-pub record GoesOn (states : ℕ → Contents) (limit : ℕ) (w : List TerminalString) : Type 0 where
+pub record ShiftsAll (states : ℕ → Contents) (limit : ℕ) (w : List TerminalString) : Type 0 where
   pub shifted : IsAllShifted states limit w
   pub begins : ForEachGrammar states (λ g start. IsBeginning g start w)
 
 -- the run on a list does not shift all of it. If the states are faithful and the list is a
 -- beginning of a sentence, the limit cut the run off
-pub record DoesNotGoOn (states : ℕ → Contents) (limit : ℕ) (w : List TerminalString) : Type 0 where
+pub record DoesNotShiftAll (states : ℕ → Contents) (limit : ℕ) (w : List TerminalString) : Type 0 where
   pub not_shifted : IsAllShifted states limit w → ⊥
   pub no_beginning : ForEachGrammar states (λ g start. IsBeginning g start w → IsCutOff states w limit)
 
 -- the run shifts all of a list, or it does not, as a test says
-abbrev pub IsGoingOn : (ℕ → Contents) → ℕ → List TerminalString → Bool → Type 0
-IsGoingOn states limit w true = GoesOn states limit w
-IsGoingOn states limit w false = DoesNotGoOn states limit w
+abbrev pub IsShiftingAll : (ℕ → Contents) → ℕ → List TerminalString → Bool → Type 0
+IsShiftingAll states limit w true = ShiftsAll states limit w
+IsShiftingAll states limit w false = DoesNotShiftAll states limit w
 
 -- the run on a list ends with a tree. The tree is a parse tree, if the states are faithful
 pub record MayEnd (states : ℕ → Contents) (limit : ℕ) (w : List TerminalString) : Type 0 where
@@ -43,15 +43,16 @@ abbrev pub IsEnding : (ℕ → Contents) → ℕ → List TerminalString → Boo
 IsEnding states limit w true = MayEnd states limit w
 IsEnding states limit w false = MayNotEnd states limit w
 
--- of a list of terminals those are selected, in their order, with which a beginning goes on
+-- the second list has those terminals of the first, in their order, that a run shifts after a
+-- beginning
 pub data AreNext (states : ℕ → Contents) (limit : ℕ) (before : List TerminalString) : List TerminalString → List TerminalString → Type 0 where
   no_next : AreNext states limit before [] []
-  next_first : (t : TerminalString) (ts us : List TerminalString) → GoesOn states limit (before ++ t ∷ []) → AreNext states limit before ts us → AreNext states limit before (t ∷ ts) (t ∷ us)
-  other_first : (t : TerminalString) (ts us : List TerminalString) → DoesNotGoOn states limit (before ++ t ∷ []) → AreNext states limit before ts us → AreNext states limit before (t ∷ ts) us
+  next_first : (t : TerminalString) (ts us : List TerminalString) → ShiftsAll states limit (before ++ t ∷ []) → AreNext states limit before ts us → AreNext states limit before (t ∷ ts) (t ∷ us)
+  other_first : (t : TerminalString) (ts us : List TerminalString) → DoesNotShiftAll states limit (before ++ t ∷ []) → AreNext states limit before ts us → AreNext states limit before (t ∷ ts) us
 
--- a number of terminals of an input: a run on these shifts all of them, and a run on these and the
--- next one, if there is a next one, does not
+-- a run shifts the first terminals of an input, so many as the number says. If there is a next one,
+-- a run on these and the next one does not shift all of them
 pub record IsShiftedCount (states : ℕ → Contents) (limit : ℕ) (w : List TerminalString) (count : ℕ) : Type 0 where
   pub within : count ≤ length w
   pub shifted : IsAllShifted states limit (take count w)
-  pub no_more : count < length w → DoesNotGoOn states limit (take (suc count) w)
+  pub no_more : count < length w → DoesNotShiftAll states limit (take (suc count) w)

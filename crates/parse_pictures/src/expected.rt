@@ -2,7 +2,7 @@
 ghost use Rattle.std.specs.Prelude.{◌≡◌, ◌<◌, ◌∷◌, [], ◌++◌, IfOk, List, OnOk, length};
 ghost use Rattle.lalrpop_base.specs.Words.{AreCoherent, contents_in};
 ghost use Rattle.lalrpop_grammar.specs.declared.repr.TerminalString.{TerminalString};
-ghost use Rattle.parse_pictures.specs.NextTokens.{AreNext, IsShiftedCount, IsEnding, IsGoingOn};
+ghost use Rattle.parse_pictures.specs.NextTokens.{AreNext, IsShiftedCount, IsEnding, IsShiftingAll};
 
 use lalrpop_collections::memory::OutOfMemory;
 use lalrpop_grammar::repr::TerminalString;
@@ -65,7 +65,7 @@ fn push_if_next<'grammar, L: LookaheadInterpret>(
         (contents_in (L.holds terminals.now) states.now) limit before.now (ts ++ terminal.now ∷ [])
         next.new.items) }
 {
-    let shifts = goes_on_with(alloc, states, terminals, before, terminal, limit)?;
+    let shifts = shifts_all_with(alloc, states, terminals, before, terminal, limit)?;
     if shifts {
         next.push(terminal.clone(alloc)?)?;
         return Ok(());
@@ -74,7 +74,7 @@ fn push_if_next<'grammar, L: LookaheadInterpret>(
 }
 
 // Whether a parse shifts a terminal after the beginning of an input.
-fn goes_on_with<'grammar, L: LookaheadInterpret>(
+fn shifts_all_with<'grammar, L: LookaheadInterpret>(
     alloc: Global,
     states: &[State<'grammar, L>],
     terminals: &TerminalSet,
@@ -84,16 +84,16 @@ fn goes_on_with<'grammar, L: LookaheadInterpret>(
 ) -> Result<bool, OutOfMemory>
     requires coherent { AreCoherent states.now }
     requires some { 0 < length states.now }
-    ensures { IfOk result (λ shifts. IsGoingOn (contents_in (L.holds terminals.now) states.now)
+    ensures { IfOk result (λ shifts. IsShiftingAll (contents_in (L.holds terminals.now) states.now)
         limit (before.now ++ terminal.now ∷ []) shifts) }
 {
     let mut tokens = copies(alloc, before)?;
     tokens.push(terminal.clone(alloc)?)?;
-    goes_on(alloc, states, terminals, tokens, limit)
+    shifts_all(alloc, states, terminals, tokens, limit)
 }
 
 // Whether a parse shifts a whole list.
-fn goes_on<'grammar, L: LookaheadInterpret>(
+fn shifts_all<'grammar, L: LookaheadInterpret>(
     alloc: Global,
     states: &[State<'grammar, L>],
     terminals: &TerminalSet,
@@ -102,7 +102,7 @@ fn goes_on<'grammar, L: LookaheadInterpret>(
 ) -> Result<bool, OutOfMemory>
     requires coherent { AreCoherent states.now }
     requires some { 0 < length states.now }
-    ensures { IfOk result (λ shifts. IsGoingOn (contents_in (L.holds terminals.now) states.now)
+    ensures { IfOk result (λ shifts. IsShiftingAll (contents_in (L.holds terminals.now) states.now)
         limit tokens.items shifts) }
 {
     match interpret_partial(alloc, states, terminals, tokens, limit) {
@@ -164,7 +164,7 @@ pub fn shifted_count<'grammar, L: LookaheadInterpret>(
     while low < high {
         let middle = high - (high - low) / 2;
         let beginning = copies(alloc, &tokens[..middle])?;
-        let shifts = goes_on(alloc, states, terminals, beginning, limit)?;
+        let shifts = shifts_all(alloc, states, terminals, beginning, limit)?;
         if shifts {
             low = middle;
         } else {

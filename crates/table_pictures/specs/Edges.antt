@@ -11,12 +11,12 @@ use Rattle.lalrpop_states.specs.declared.lr1_core.state.Action.TheVariants.{Shif
 use Rattle.lalrpop_states.specs.declared.lr1_core.state.Conflict.{Conflict}
 use Rattle.lalrpop_states.specs.declared.lr1_core.state.State.{State}
 use Rattle.lalrpop_states.specs.declared.lr1_core.state.StateIndex.{StateIndex}
-use Rattle.table_pictures.specs.declared.edges.Shown.{Shown}
-use Rattle.table_pictures.specs.declared.edges.Shown.TheVariants.{All, Around, Only}
+use Rattle.table_pictures.specs.declared.edges.ShownStates.{ShownStates}
+use Rattle.table_pictures.specs.declared.edges.ShownStates.TheVariants.{All, Around, Only}
 
 -- whether an edge is shown: all edges are, or those that begin or end at a state, or those between
 -- states whose flags are set
-abbrev pub shows_edge : Shown → ℕ → ℕ → Bool
+abbrev pub shows_edge : ShownStates → ℕ → ℕ → Bool
 shows_edge All from to = true
 shows_edge (Around number) from to = from == number || to == number
 shows_edge (Only flags) from to = get_or flags.items from false && get_or flags.items to false
@@ -47,17 +47,17 @@ abbrev pub graph_goto_line : ℕ → ℕ → List ℕ
 graph_goto_line from to = edge_line from to (codes " [style=dashed];\n")
 
 -- the line of a shift, if it is shown; it is red if the shift is in a conflict
-abbrev pub shown_shift : List (Conflict Bits) → Shown → ℕ → TerminalString × StateIndex → List ℕ
+abbrev pub shown_shift : List (Conflict Bits) → ShownStates → ℕ → TerminalString × StateIndex → List ℕ
 shown_shift conflicts shown from (t, target) = if shows_edge shown from target.0 then graph_shift_line (list_any (is_shift_conflict from t) conflicts) from target.0 else []
 
 -- the line of a goto to a state, if it is shown
-abbrev pub shown_edge : Shown → ℕ → StateIndex → List ℕ
+abbrev pub shown_edge : ShownStates → ℕ → StateIndex → List ℕ
 shown_edge shown from target = if shows_edge shown from target.0 then graph_goto_line from target.0 else []
 
 -- the line of a goto, if it is shown
-abbrev pub shown_goto : Shown → ℕ → NonterminalString × StateIndex → List ℕ
+abbrev pub shown_goto : ShownStates → ℕ → NonterminalString × StateIndex → List ℕ
 shown_goto shown from (name, target) = shown_edge shown from target
 
 -- the edges of a state that are shown, each on a line, first the shifts and then the gotos
-abbrev pub graph_edges : List (Conflict Bits) → Shown → State Bits → List ℕ
+abbrev pub graph_edges : List (Conflict Bits) → ShownStates → State Bits → List ℕ
 graph_edges conflicts shown state = flat_map (shown_shift conflicts shown state.index.0) state.shifts.entries ++ flat_map (shown_goto shown state.index.0) state.gotos.entries

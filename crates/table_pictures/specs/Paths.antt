@@ -27,8 +27,8 @@ AreEdgesBelow limit edges = (from to : ℕ) → Contains edges (from, to) → (f
 abbrev pub AreNear : List (ℕ × ℕ) → ℕ → ℕ → List Bool → Type 0
 AreNear edges number most flags = (other : ℕ) → IsTrue (get_or flags other false) ↔ IsNear edges number most other
 
--- a number is on a shortest path from the start to an end: a path leads to it and one from it to
--- the end, and no path to that end has fewer edges than both together
+-- a number is on a shortest path from the start to an end. A path leads to the number, and one leads
+-- from it to the end. No path from the start to that end has fewer edges than both together
 pub record IsOnShortest (edges : List (ℕ × ℕ)) (start : ℕ) (is_end : ℕ → Bool) (number : ℕ) : Type 0 where
   pub end : ℕ
   pub is_there : IsTrue (is_end end)

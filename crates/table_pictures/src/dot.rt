@@ -4,7 +4,7 @@ ghost use Rattle.std.specs.List.{flat_map};
 ghost use Rattle.table_pictures.specs.Edges.{graph_edges};
 ghost use Rattle.table_pictures.specs.Graphs.{edge_count, graph, layout_of, leads_by, leads_there, shown_node, shows_state};
 
-use super::edges::{Shown, push_edges};
+use super::edges::{ShownStates, push_edges};
 use super::nodes::push_node;
 use super::rounds::flag_at;
 use lalrpop_base::lr1_core::state::{Lr1Conflict, Lr1State, StateIndex};
@@ -21,7 +21,7 @@ pub fn graph_text<'grammar>(
     terminals: &TerminalSet,
     states: &[Lr1State<'grammar>],
     conflicts: &[Lr1Conflict<'grammar>],
-    shown: &Shown,
+    shown: &ShownStates,
 ) -> Result<String, OutOfMemory>
     ensures { IfOk result (λ text. string_bytes text ≡ graph start.now terminals.now states.now
         conflicts.now shown.now) }
@@ -46,15 +46,15 @@ const MOST_EDGES: usize = 200;
 // How a graph is laid out. A graph of all states goes from top to bottom, with straight edges if
 // there are many. A graph of some states goes from left to right, so that the many neighbours of a
 // state are one below the other.
-fn layout(states: &[Lr1State<'_>], shown: &Shown) -> &'static str
+fn layout(states: &[Lr1State<'_>], shown: &ShownStates) -> &'static str
     ensures { result.now ≡ layout_of states.now shown.now }
 {
     match shown {
-        Shown::All if edge_count(states) > MOST_EDGES => {
+        ShownStates::All if edge_count(states) > MOST_EDGES => {
             "  graph [splines=line nslimit=1 nslimit1=1 mclimit=0.2];\n"
         }
-        Shown::All => "",
-        Shown::Around(_) | Shown::Only(_) => "  rankdir=LR;\n",
+        ShownStates::All => "",
+        ShownStates::Around(_) | ShownStates::Only(_) => "  rankdir=LR;\n",
     }
 }
 
@@ -79,7 +79,7 @@ fn push_nodes<'grammar>(
     states: &[Lr1State<'grammar>],
     conflicts: &[Lr1Conflict<'grammar>],
     terminals: &TerminalSet,
-    shown: &Shown,
+    shown: &ShownStates,
 ) -> Result<(), OutOfMemory>
     ensures { OnOk result (string_bytes text.new ≡ string_bytes text.old ++ flat_map
         (shown_node start.now terminals.now states.now conflicts.now shown.now) states.now) }
@@ -100,7 +100,7 @@ fn push_shown_node<'grammar>(
     states: &[Lr1State<'grammar>],
     conflicts: &[Lr1Conflict<'grammar>],
     terminals: &TerminalSet,
-    shown: &Shown,
+    shown: &ShownStates,
     state: &Lr1State<'grammar>,
 ) -> Result<(), OutOfMemory>
     ensures { OnOk result (string_bytes text.new ≡ string_bytes text.old ++ shown_node start.now
@@ -113,20 +113,20 @@ fn push_shown_node<'grammar>(
 }
 
 // Whether a state is shown.
-fn is_shown(states: &[Lr1State<'_>], shown: &Shown, state: &Lr1State<'_>) -> bool
+fn is_shown(states: &[Lr1State<'_>], shown: &ShownStates, state: &Lr1State<'_>) -> bool
     ensures { result ≡ shows_state states.now shown.now state.now }
 {
     match shown {
-        Shown::All => true,
-        Shown::Around(number) => is_near(states, *number, state),
-        Shown::Only(flags) => flag_at(flags, state.index.0, false),
+        ShownStates::All => true,
+        ShownStates::Around(number) => is_near(states, *number, state),
+        ShownStates::Only(flags) => flag_at(flags, state.index.0, false),
     }
 }
 
 // Whether a state has the number, has an edge to the state with the number, or is the target of an
 // edge of that state.
 fn is_near(states: &[Lr1State<'_>], number: usize, state: &Lr1State<'_>) -> bool
-    ensures { result ≡ shows_state states.now (Shown.Around number) state.now }
+    ensures { result ≡ shows_state states.now (ShownStates.Around number) state.now }
 {
     state.index.0 == number
         || leads_to(state, number)
@@ -152,7 +152,7 @@ fn push_all_edges<'grammar>(
     text: &mut String,
     states: &[Lr1State<'grammar>],
     conflicts: &[Lr1Conflict<'grammar>],
-    shown: &Shown,
+    shown: &ShownStates,
 ) -> Result<(), OutOfMemory>
     ensures { OnOk result (string_bytes text.new ≡ string_bytes text.old ++ flat_map
         (graph_edges conflicts.now shown.now) states.now) }

@@ -11,7 +11,7 @@ use std::collections::BTreeMap;
 
 /// The states and edges that are shown.
 #[derive(Drop)]
-pub enum Shown {
+pub enum ShownStates {
     /// All states, and all edges.
     All,
     /// The state with a number and its neighbours, and the edges that begin or end at that state.
@@ -20,15 +20,15 @@ pub enum Shown {
     Only(Vec<bool>),
 }
 
-impl Shown {
+impl ShownStates {
     /// Whether an edge from one state to another is shown.
     pub(crate) fn has_edge(&self, from: usize, to: usize) -> bool
         ensures { result ≡ shows_edge self.now from to }
     {
         match self {
-            Shown::All => true,
-            Shown::Around(number) => from == *number || to == *number,
-            Shown::Only(flags) => flag_at(flags, from, false) && flag_at(flags, to, false),
+            ShownStates::All => true,
+            ShownStates::Around(number) => from == *number || to == *number,
+            ShownStates::Only(flags) => flag_at(flags, from, false) && flag_at(flags, to, false),
         }
     }
 }
@@ -38,7 +38,7 @@ pub(crate) fn push_edges(
     text: &mut String,
     state: &Lr1State<'_>,
     conflicts: &[Lr1Conflict<'_>],
-    shown: &Shown,
+    shown: &ShownStates,
 ) -> Result<(), OutOfMemory>
     ensures { OnOk result
         (string_bytes text.new ≡
@@ -55,7 +55,7 @@ fn push_shifts(
     from: StateIndex,
     shifts: &BTreeMap<TerminalString, StateIndex>,
     conflicts: &[Lr1Conflict<'_>],
-    shown: &Shown,
+    shown: &ShownStates,
 ) -> Result<(), OutOfMemory>
     ensures { OnOk result (string_bytes text.new ≡ string_bytes text.old ++ flat_map
         (shown_shift conflicts.now shown.now from.0) shifts.now.entries) }
@@ -73,7 +73,7 @@ fn push_shown_shift(
     terminal: &TerminalString,
     target: StateIndex,
     conflicts: &[Lr1Conflict<'_>],
-    shown: &Shown,
+    shown: &ShownStates,
 ) -> Result<(), OutOfMemory>
     ensures { OnOk result (string_bytes text.new ≡ string_bytes text.old ++ shown_shift
         conflicts.now shown.now from.0 (terminal.now, target)) }
@@ -130,7 +130,7 @@ fn push_gotos(
     text: &mut String,
     from: StateIndex,
     gotos: &BTreeMap<NonterminalString, StateIndex>,
-    shown: &Shown,
+    shown: &ShownStates,
 ) -> Result<(), OutOfMemory>
     ensures { OnOk result (string_bytes text.new ≡ string_bytes text.old ++ flat_map
         (shown_goto shown.now from.0) gotos.now.entries) }
@@ -146,7 +146,7 @@ fn push_shown_goto(
     text: &mut String,
     from: StateIndex,
     target: StateIndex,
-    shown: &Shown,
+    shown: &ShownStates,
 ) -> Result<(), OutOfMemory>
     ensures { OnOk result
         (string_bytes text.new ≡ string_bytes text.old ++ shown_edge shown.now from.0 target) }

@@ -35,7 +35,7 @@ function foundSymbol(s) {
 }
 // The end of the input, with the states that reduce on it and the conflicts on it.
 function foundEnd() {
-  const has = (it) => it.lookahead.includes(null);
+  const has = (it) => it.tokens.includes(null);
   const states = data.states.filter((s) => s.reductions.some(has));
   const ats = [...data.conflicts.keys()].filter((at) => has(data.conflicts[at]));
   return part("li", "", token(null), " is the end of the input. It is reduced on in",

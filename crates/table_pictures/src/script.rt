@@ -5,6 +5,16 @@ pub(crate) const TREES: &str =
     r##"const data = JSON.parse(document.getElementById("data").textContent);
 const production = new Map(data.productions.map((p) => [p.number, p]));
 const stateOf = new Map(data.states.map((s) => [s.number, s]));
+// Items, reductions and conflicts name the set of their tokens by its number. An item has `null` in
+// its place if it has all tokens.
+function putTokens(all) {
+  for (const it of all) it.tokens = it.lookahead === null ? null : data.sets[it.lookahead];
+}
+for (const s of data.states) {
+  putTokens(s.items);
+  putTokens(s.reductions);
+}
+putTokens(data.conflicts);
 
 function part(tag, name, ...kids) {
   const it = document.createElement(tag);
@@ -118,7 +128,7 @@ data.conflicts.forEach((c, at) => {
 const all = data.causes.map((it) => ({
   ...it,
   states: new Set(it.conflicts.map((at) => data.conflicts[at].state)),
-  tokens: new Set(it.conflicts.flatMap((at) => data.conflicts[at].lookahead)),
+  tokens: new Set(it.conflicts.flatMap((at) => data.conflicts[at].tokens)),
 }));
 // Of each production, the states that reduce by it.
 const reducedIn = new Map(data.productions.map((p) => [p.number, []]));
@@ -130,7 +140,7 @@ const line = (...parts) => part("div", "line", ...parts);
 // The tokens of an item are `null` if it has all.
 const isWhole = (tokens) => tokens === null || tokens.length > data.terminals.length;
 // Items of lane tables have all tokens, which says nothing.
-const itemsAreWhole = data.states.every((s) => s.items.every((i) => isWhole(i.lookahead)));
+const itemsAreWhole = data.states.every((s) => s.items.every((i) => isWhole(i.tokens)));
 function lookahead(tokens) {
   return part("span", "tokens",
     ...(isWhole(tokens) ? [" on each token"] : [" on", ...spaced(tokens.map(token))]));
@@ -140,13 +150,13 @@ function titled(title, lines) {
 }
 const conflictLink = (at) => linked(`c${at + 1}`, "told", `Conflict ${at + 1}`);
 const conflictLine = (at) =>
-  line(conflictLink(at), " on", ...spaced(data.conflicts[at].lookahead.map(token)));
+  line(conflictLink(at), " on", ...spaced(data.conflicts[at].tokens.map(token)));
 function drawState(s, it) {
   const isKernel = (i) =>
     i.dot > 0 || (s.number === 0 && production.get(i.production).nonterminal === data.start);
   const item = (i) =>
-    line(...dotted(i.production, i.dot), ...(itemsAreWhole ? [] : [lookahead(i.lookahead)]));
-  const reduction = (r) => line("reduce ", ruleLink(r.production), lookahead(r.lookahead));
+    line(...dotted(i.production, i.dot), ...(itemsAreWhole ? [] : [lookahead(i.tokens)]));
+  const reduction = (r) => line("reduce ", ruleLink(r.production), lookahead(r.tokens));
   const edges = (all, shown) =>
     Object.entries(all).map(([name, to]) => line(shown(name), " to ", link(to)));
   const { by, from } = into.get(s.number);

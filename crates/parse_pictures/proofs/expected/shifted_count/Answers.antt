@@ -1,6 +1,6 @@
 use Rattle.std.proofs.Common.{◌≡◌, ◌-◌, ◌/◌, ℕ, suc, subst, take, arith}
 use Rattle.lalrpop_base.specs.Words.{contents_in}
-use Rattle.parse_pictures.specs.NextTokens.{DoesNotGoOn, GoesOn, IsAllShifted, IsGoingOn}
+use Rattle.parse_pictures.specs.NextTokens.{DoesNotShiftAll, ShiftsAll, IsAllShifted, IsShiftingAll}
 use Rattle.parse_pictures.proofs.NextTokens.{none_shifted}
 use Rattle.parse_pictures.proofs.expected.shifted_count.Goals as goal
 
@@ -14,7 +14,7 @@ loop-low-preserved-then-shifts g c =
     let states = contents_in (g.L.LookaheadInterpret.holds c.args.terminals.now) c.args.states.now in
     let i = c.loop-low.invariant in
     let middle : ℕ = c.loop-low.high - (c.loop-low.high - c.loop-low.low) / 2 in
-    let goes : GoesOn states c.args.limit c.in_ok-beginning.beginning.items = subst (IsGoingOn states c.args.limit c.in_ok-beginning.beginning.items) c.if-shifts.true c.in_ok-shifts.ensures in
+    let goes : ShiftsAll states c.args.limit c.in_ok-beginning.beginning.items = subst (IsShiftingAll states c.args.limit c.in_ok-beginning.beginning.items) c.if-shifts.true c.in_ok-shifts.ensures in
     (omega arith, i.1, subst (IsAllShifted states c.args.limit) c.in_ok-beginning.ensures goes.shifted, i.3)
 
 pub loop-low-preserved : goal.loop-low-preserved
@@ -23,9 +23,9 @@ loop-low-preserved g c =
     let i = c.loop-low.invariant in
     let middle : ℕ = c.loop-low.high - (c.loop-low.high - c.loop-low.low) / 2 in
     let next : middle ≡ suc (middle - 1) = omega arith in
-    let stops : DoesNotGoOn states c.args.limit c.in_ok-beginning.beginning.items = subst (IsGoingOn states c.args.limit c.in_ok-beginning.beginning.items) c.if-shifts.false c.in_ok-shifts.ensures in
-    let here : DoesNotGoOn states c.args.limit (take middle c.args.tokens.now) = subst (DoesNotGoOn states c.args.limit) c.in_ok-beginning.ensures stops in
-    (omega arith, omega arith, i.2, λ less. subst (λ n. DoesNotGoOn states c.args.limit (take n c.args.tokens.now)) next here)
+    let stops : DoesNotShiftAll states c.args.limit c.in_ok-beginning.beginning.items = subst (IsShiftingAll states c.args.limit c.in_ok-beginning.beginning.items) c.if-shifts.false c.in_ok-shifts.ensures in
+    let here : DoesNotShiftAll states c.args.limit (take middle c.args.tokens.now) = subst (DoesNotShiftAll states c.args.limit) c.in_ok-beginning.ensures stops in
+    (omega arith, omega arith, i.2, λ less. subst (λ n. DoesNotShiftAll states c.args.limit (take n c.args.tokens.now)) next here)
 
 pub returns : goal.returns
 returns g c =
@@ -34,5 +34,5 @@ returns g c =
     let same : c.loop-low.high ≡ c.loop-low.low = omega (arith, i.0, c.loop-low-test.false) in record {
       within = omega (arith, i.0, i.1);
       shifted = i.2;
-      no_more = λ less. subst (λ n. DoesNotGoOn states c.args.limit (take (suc n) c.args.tokens.now)) same (i.3 (omega (arith, same, less)));
+      no_more = λ less. subst (λ n. DoesNotShiftAll states c.args.limit (take (suc n) c.args.tokens.now)) same (i.3 (omega (arith, same, less)));
     }

@@ -1,6 +1,6 @@
 use Rattle.lalrpop_base.specs.Words.{Limit, Refused}
 use Rattle.parse_pictures.proofs.NextTokens.{stop_or_stack}
-use Rattle.parse_pictures.proofs.expected.goes_on.Goals as goal
+use Rattle.parse_pictures.proofs.expected.shifts_all.Goals as goal
 
 pub returns-in-Ok : goal.returns-in-Ok
 returns-in-Ok g c = record { shifted = (_, c.in-Ok.ensures.outcome); begins = c.in-Ok.ensures.begun }
