@@ -14,7 +14,7 @@ use Rattle.lalrpop_construction.specs.declared.options.Options.{Options}
 use Rattle.lalrpop_lr1.specs.Words.{report_text}
 use Rattle.lrtab_run.specs.Words.{Report}
 use Rattle.lrtab_run.specs.Shown.{IsTaskShown}
-use Rattle.lrtab_run.proofs.Plain.{plain_tables, plain_conflicts}
+use Rattle.lalrpop_tables.proofs.theory.answers.NotCollapsed.{plain_tables, plain_conflicts}
 
 inside : {X : Type 0} (x y : X) → Some x ≡ Some y → y ≡ x
 inside x y e = cc

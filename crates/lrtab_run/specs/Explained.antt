@@ -13,7 +13,7 @@ use Rattle.lalrpop_states.specs.declared.lr1_core.state.StateIndex.{StateIndex}
 use Rattle.lalrpop_grammar.specs.declared.repr.Production.{Production}
 use Rattle.lalrpop_grammar.specs.declared.repr.Symbol.TheVariants.{Terminal}
 use Rattle.lalrpop_grammar.specs.declared.repr.TerminalString.{TerminalString}
-use Rattle.lalrpop_lr1.specs.Words.{AreFirst, GoesOnWith, marked_text, prefixes, spelled, item_node, items_at, paths, production_line, tokens_in, tokens_text, Graph, IsInOrder, IsTraceOf}
+use Rattle.lalrpop_lr1.specs.Words.{AreFirst, example_text, GoesOnWith, prefixes, spelled, item_node, items_at, paths, production_line, tokens_in, tokens_text, Graph, IsInOrder, IsTraceOf}
 use Rattle.lalrpop_lr1.specs.Words.{dotted, shift_traced, reduction_traced}
 use Rattle.lalrpop_traces.specs.declared.trace.example.ExampleSymbol.{ExampleSymbol}
 
@@ -24,7 +24,7 @@ head_line number state tokens = codes "conflict " ++ (decimal number ++ (codes "
 
 -- an example after four spaces
 abbrev pub indented_line : List ExampleSymbol → ℕ → List ℕ
-indented_line symbols place = codes "    " ++ (marked_text symbols place ++ codes "\n")
+indented_line symbols place = codes "    " ++ (example_text symbols place ++ codes "\n")
 
 -- the line of the example of a path
 abbrev pub path_line : Graph → List ℕ → List ℕ

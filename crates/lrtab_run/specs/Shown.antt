@@ -19,20 +19,10 @@ use Rattle.lalrpop_parser.specs.declared.interpret.error.InterpretError.{Interpr
 use Rattle.lalrpop_parser.specs.declared.interpret.error.InterpretError.TheVariants.{Refused as RefusedBy, Limit as LimitPassed, Memory}
 use Rattle.lalrpop_parser.specs.declared.interpret.tree.ParseTree.{ParseTree}
 use Rattle.grammar_text.specs.Symbols.{name_of}
+use Rattle.program_answers.specs.Outcomes.{SaysOfGrammar}
+use Rattle.program_answers.specs.Texts.{line, most_copies}
 use Rattle.lrtab_run.specs.Explained.{IsExplanation}
 use Rattle.lrtab_run.specs.Words.{Asked, Task, Parse, Report, Explain}
-
--- a text and a line end
-abbrev pub line : List ℕ → List ℕ
-line text = text ++ 10 ∷ []
-
--- `h` is `g` with its marked nonterminals inlined: no production mentions one, and each nonterminal
--- derives the lists of terminals that it derives in `g`
-pub record IsInlining (g h : Grammar) : Type 0 where
-  pub inlined : IsInlined g h
-  pub well_formed : IsWellFormed h
-  pub unmentioned : (a c : NonterminalString) → IsMarked g c → Mentions h a c → ⊥
-  pub terminal_lists : (a : NonterminalString) (w : List TerminalString) → IsSentence (productions g) a w ↔ IsSentence (productions h) a w
 
 -- ---- a parse
 -- the status and the text of an outcome: 0 and a tree, or 1 and a refusal or the limit
@@ -58,13 +48,6 @@ abbrev pub SaysOfTokens : (ℕ → Contents) → List TerminalString → ℕ →
 SaysOfTokens states tokens limit (Parsed t) = (leaves (beside t no_trees) ≡ tokens) × (nodes (beside t no_trees) ≤ limit)
 SaysOfTokens states tokens limit (Refused n token) = Unit {0}
 SaysOfTokens states tokens limit Limit = IsCutOff states tokens limit
-
--- what an outcome says of a grammar: a tree is a parse tree, and a refusal names the first wrong
--- token
-abbrev pub SaysOfGrammar : List Production → NonterminalString → List TerminalString → Outcome → Type 0
-SaysOfGrammar g start tokens (Parsed t) = IsParseTree g start tokens t
-SaysOfGrammar g start tokens (Refused n token) = IsFirstWrong g start tokens token
-SaysOfGrammar g start tokens Limit = Unit {0}
 
 -- the text has the outcome of a run by states; if the start symbol is on no right side, the outcome
 -- also says something of the grammar, and each parse tree of the tokens has that outcome
@@ -128,16 +111,6 @@ IsTaskShown method max_copies g start (Parse limit tokens) status text = IsParse
 IsTaskShown method max_copies g start Report status text = IsTablesShown method max_copies g start status text ⊎ AreConflictsShown g start status text
 IsTaskShown method max_copies g start Explain status text = IsFreeShown method max_copies g start status text ⊎ IsExplanationShown g start status text
 
--- the greatest number of states that may be copied
-abbrev pub most_copies : ℕ
-most_copies = 10000
-
 -- the status and the text that a request shows of a grammar
 abbrev pub IsShown : Method → Grammar → Asked → ℕ → List ℕ → Type 0
 IsShown method g request = IsTaskShown method most_copies g (name_of request.start) request.task
-
--- something is shown of a grammar after its marked nonterminals are inlined
-pub record IsShownInlined (IsShown : Grammar → Type 0) (g : Grammar) : Type 0 where
-  pub inlined : Grammar
-  pub inlining : IsInlining g inlined
-  pub shown : IsShown inlined

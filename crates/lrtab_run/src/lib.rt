@@ -1,12 +1,9 @@
 //! What the program `lrtab` prints for its arguments, over any reader and writers.
 #![tactic(auto)]
 
-pub mod answer;
-pub mod ask;
 pub mod explain;
-pub mod host;
-pub mod output;
 pub mod run;
 mod shown;
-pub mod tell;
 pub mod words;
+
+pub use program_answers::{answer, ask, host, output, tell};

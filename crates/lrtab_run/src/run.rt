@@ -1,9 +1,10 @@
 //! The program `lrtab`, over any reader and writers.
 ghost use Rattle.std.specs.Prelude.{◌≡◌, map, option_map, string_bytes};
-ghost use Rattle.lrtab_run.specs.declared.answer.Answer.{Answer};
+ghost use Rattle.program_answers.specs.declared.answer.Answer.{Answer};
 ghost use Rattle.lrtab_run.specs.Words.{request_of};
-ghost use Rattle.lrtab_run.specs.Answers.{file_name, usage, IsAnswer};
-ghost use Rattle.lrtab_run.specs.Written.{IsResultWritten};
+ghost use Rattle.program_answers.specs.Answers.{file_name};
+ghost use Rattle.lrtab_run.specs.Answers.{usage, IsAnswer};
+ghost use Rattle.program_answers.specs.Written.{IsResultWritten};
 
 use crate::answer::{Answer, answer_to, first_word};
 use crate::tell::tell;

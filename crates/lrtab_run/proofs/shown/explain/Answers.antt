@@ -1,6 +1,6 @@
 use Rattle.std.proofs.Common.{refl, inl, inr, rules}
 use Rattle.lalrpop_lr1.proofs.theory.explained.OwnErrors.{own_error}
-use Rattle.lrtab_run.proofs.Plain.{plain_tables, plain_conflicts}
+use Rattle.lalrpop_tables.proofs.theory.answers.NotCollapsed.{plain_tables, plain_conflicts}
 use Rattle.lrtab_run.proofs.shown.explain.Goals as goal
 
 pub returns-in-Ok : goal.returns-in-Ok

@@ -2,8 +2,8 @@
 ghost use Rattle.std.specs.Prelude.{◌≡◌, ◌++◌, IfOk, IfSome, Some, Option, map, option_map, string_bytes, codes, List, ℕ, false};
 ghost use Rattle.std.specs.Fmt.{decimal};
 ghost use Rattle.lalrpop_base.specs.Words.{IsWellFormed};
-ghost use Rattle.lrtab_run.specs.Answers.{file_name, IsAnswerTo, IsAnswerToGrammar};
-ghost use Rattle.lrtab_run.specs.Shown.{line};
+ghost use Rattle.program_answers.specs.Answers.{file_name, IsAnswerTo, IsAnswerToGrammar};
+ghost use Rattle.program_answers.specs.Texts.{line};
 
 use crate::ask::Ask;
 use grammar_text::grammar::read;
@@ -12,8 +12,8 @@ use lalrpop_base::memory::OutOfMemory;
 use lalrpop_base::repr::NonterminalString;
 use lalrpop_base::repr::grammar::Grammar;
 use lalrpop_base::repr::norm_error::NormError;
-use lalrpop_lr1::inline::inline;
-use lalrpop_tables::build::Method;
+use lalrpop_construction::options::Method;
+use lalrpop_inline::inline::inline;
 use std::alloc::Global;
 use std::io::{ErrorKind, Read};
 

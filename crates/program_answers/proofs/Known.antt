@@ -3,15 +3,15 @@ use Rattle.std.proofs.Common.{◌≡◌, ℕ, inl, inr, List, Option, None, Some
 use Rattle.std.specs.Prelude.{IfSome, IfOk, position, string_bytes}
 use Rattle.std.specs.Str.{IsUtf8}
 use Rattle.lalrpop_collections.specs.declared.memory.OutOfMemory.{OutOfMemory}
-use Rattle.lrtab_run.specs.declared.answer.Answer.{Answer}
-use Rattle.lrtab_run.specs.declared.answer.Shown.{Shown}
-use Rattle.lrtab_run.specs.declared.answer.Answer.TheVariants.{Output, Fault, Usage, TooManyActions, Memory}
+use Rattle.program_answers.specs.declared.answer.Answer.{Answer}
+use Rattle.program_answers.specs.declared.answer.Shown.{Shown}
+use Rattle.program_answers.specs.declared.answer.Answer.TheVariants.{Output, Fault, Usage, TooManyActions, Memory}
 use Rattle.grammar_text.specs.declared.read_error.ReadError.TheVariants.{Line as LineFault}
 use Rattle.grammar_text.specs.Lines.{lines_of, is_fault}
 use Rattle.grammar_text.specs.Faults.{IsFaultOf}
 use Rattle.grammar_text.specs.Grammar.{StandsFor}
 use Rattle.lalrpop_grammar.specs.declared.repr.grammar.Grammar.{Grammar}
-use Rattle.lrtab_run.specs.Answers.{OfFile, IsOutputOf, HasInlineCycle, IsTooMany, inlined, IsFaultText, IsAnswerTo, IsAnswerToGrammar}
+use Rattle.program_answers.specs.Answers.{OfFile, IsOutputOf, HasInlineCycle, IsTooMany, inlined, IsFaultText, IsAnswerTo, IsAnswerToGrammar}
 
 of_file : (P : List ℕ → Type 0) (bytes : List ℕ) (known : Option (List ℕ)) → IfSome known (λ xs. bytes ≡ xs) → P bytes → OfFile P (Some known)
 of_file P bytes None e p = tt

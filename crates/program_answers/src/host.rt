@@ -1,7 +1,7 @@
 //! What a program gets from the system, and how it ends if the system refuses memory.
 use crate::words::method_of;
 use lalrpop_base::memory::OutOfMemory;
-use lalrpop_tables::build::Method;
+use lalrpop_construction::options::Method;
 use std::env;
 use std::env::VarError;
 use std::io::ErrorKind;

@@ -2,10 +2,10 @@
 use Rattle.std.specs.Prelude.{◌≡◌, ℕ, List, [], Option, codes, string_bytes}
 use Rattle.std.proofs.Common.{◌⊎◌}
 use Rattle.std.specs.Io.KnownBytes.{Keeps, Appends}
-use Rattle.lrtab_run.specs.declared.answer.Answer.{Answer}
-use Rattle.lrtab_run.specs.declared.answer.Answer.TheVariants.{Output, Fault, Usage, TooManyActions, Memory}
-use Rattle.lrtab_run.specs.Output.{AppendsBeginning}
-use Rattle.lrtab_run.specs.Shown.{line}
+use Rattle.program_answers.specs.declared.answer.Answer.{Answer}
+use Rattle.program_answers.specs.declared.answer.Answer.TheVariants.{Output, Fault, Usage, TooManyActions, Memory}
+use Rattle.program_answers.specs.Output.{AppendsBeginning}
+use Rattle.program_answers.specs.Texts.{line}
 
 -- a message went to standard error, or a beginning of it if that stream fails, and nothing to
 -- standard output

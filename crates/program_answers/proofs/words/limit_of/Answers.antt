@@ -5,8 +5,8 @@ use Rattle.std.specs.Str.Parse.{digits_value}
 use Rattle.std.specs.Result.{OkIff, result_ok}
 use Rattle.std.proofs.lemmas.Bool.{ltb-true, lt-ltb}
 use Rattle.std.proofs.lemmas.Str.Parse.{numerals_by_value, tells_all_ascii_digits, parse_digits}
-use Rattle.lrtab_run.specs.Words.{limit_of}
-use Rattle.lrtab_run.proofs.words.limit_of.Goals as goal
+use Rattle.program_answers.specs.Words.{limit_of}
+use Rattle.program_answers.proofs.words.limit_of.Goals as goal
 
 refused : (a b : Bool) (P Q : Type 0) (v : ℕ) → (a ≡ true → P) → (b ≡ true → Q) → ¬ (P × Q) → None ≡ cond (a && b) (Some v) None
 refused true true P Q v p q never = absurd (never (p refl, q refl))

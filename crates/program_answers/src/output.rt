@@ -1,7 +1,7 @@
 //! Writing a whole text.
 ghost use Rattle.std.specs.Prelude.{IsTrue};
 ghost use Rattle.std.specs.Io.KnownBytes.{Appends};
-ghost use Rattle.lrtab_run.specs.Output.{AppendsBeginning};
+ghost use Rattle.program_answers.specs.Output.{AppendsBeginning};
 
 use std::io::Write;
 

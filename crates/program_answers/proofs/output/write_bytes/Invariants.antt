@@ -1,6 +1,6 @@
 use Rattle.std.proofs.Common.{◌≡◌, ℕ, List, ◌++◌, length}
 use Rattle.std.specs.Io.KnownBytes.{Appends}
-use Rattle.lrtab_run.proofs.output.write_bytes.Given as goal
+use Rattle.program_answers.proofs.output.write_bytes.Given as goal
 
 -- some of the text was written, and the rest is left
 abbrev pub invariant-loop-rest : goal.invariant-loop-rest

@@ -1,6 +1,6 @@
 use Rattle.std.proofs.Common.{◌++◌, take}
-use Rattle.lrtab_run.proofs.Written.{parted_more, appends_more}
-use Rattle.lrtab_run.proofs.output.write_bytes.Goals as goal
+use Rattle.program_answers.proofs.Written.{parted_more, appends_more}
+use Rattle.program_answers.proofs.output.write_bytes.Goals as goal
 
 pub loop-rest-preserved : goal.loop-rest-preserved
 loop-rest-preserved g c =

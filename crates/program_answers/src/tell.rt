@@ -1,7 +1,7 @@
 //! How the result of a program is written.
 ghost use Rattle.std.specs.Prelude.{◌≡◌, ◌⊎◌, string_bytes};
-ghost use Rattle.lrtab_run.specs.Written.{IsResultWritten, IsWritten, IsPartlyWritten};
-ghost use Rattle.lrtab_run.specs.Output.{AppendsBeginning};
+ghost use Rattle.program_answers.specs.Written.{IsResultWritten, IsWritten, IsPartlyWritten};
+ghost use Rattle.program_answers.specs.Output.{AppendsBeginning};
 
 use crate::answer::{Answer, Shown};
 use crate::output::write_whole;

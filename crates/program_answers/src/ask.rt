@@ -3,12 +3,12 @@ ghost use Rattle.std.specs.Prelude.{◌≡◌, IfOk, false};
 ghost use Rattle.lalrpop_base.specs.Words.{IsWellFormed};
 ghost use Rattle.lalrpop_grammar.specs.declared.repr.grammar.Grammar.{Grammar};
 ghost use Rattle.lalrpop_construction.specs.declared.options.Method.{Method};
-ghost use Rattle.lrtab_run.specs.declared.answer.Shown.{Shown};
+ghost use Rattle.program_answers.specs.declared.answer.Shown.{Shown};
 
 use crate::answer::Shown;
 use lalrpop_base::memory::OutOfMemory;
 use lalrpop_base::repr::grammar::Grammar;
-use lalrpop_tables::build::Method;
+use lalrpop_construction::options::Method;
 use std::alloc::Global;
 
 /// A request of a program, for a grammar whose marked nonterminals are inlined.
