@@ -3,8 +3,8 @@
 #![tactic(auto)]
 
 use lrshow_run::run::run;
-use lrtab_run::answer::first_word;
-use lrtab_run::host::{given_method, given_words, out_of_memory};
+use program_answers::answer::first_word;
+use program_answers::host::{given_method, given_words, out_of_memory};
 use std::fs;
 use std::fs::File;
 use std::io::Lock;

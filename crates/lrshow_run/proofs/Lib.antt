@@ -1,3 +1,1 @@
 pub mod PageShown
-pub mod Checked
-pub mod Doubts

@@ -1,14 +1,23 @@
 -- The result of the program, and how it relates to its arguments and the file.
-use Rattle.std.specs.Prelude.{◌≡◌, ℕ, List, Option, None, Some}
+use Rattle.std.specs.Prelude.{◌≡◌, ℕ, List, [], Option, None, Some}
 use Rattle.lalrpop_construction.specs.declared.options.Method.{Method}
 use Rattle.grammar_text.specs.Symbols.{name_of}
-use Rattle.lrtab_run.specs.Answers.{IsAnswerTo, file_name}
-use Rattle.lrtab_run.specs.declared.answer.Answer.{Answer}
-use Rattle.lrtab_run.specs.declared.answer.Answer.TheVariants.{Usage}
-use Rattle.lrshow_run.specs.Words.{Asked, AskedCheck, Text, check_of, request_of, text_for}
+use Rattle.program_answers.specs.Answers.{IsAnswerTo, file_name}
+use Rattle.program_answers.specs.declared.answer.Answer.{Answer}
+use Rattle.program_answers.specs.declared.answer.Answer.TheVariants.{Output, Fault, Usage, TooManyActions, Memory}
+use Rattle.lrshow_arguments.specs.Words.{Asked, AskedCheck, Text, check_of, request_of, text_for}
 use Rattle.lrshow_run.specs.Shown.{IsAskedShown}
-use Rattle.lrshow_run.specs.Check.{IsCheckAnswer}
-use Rattle.lrshow_run.specs.Help.{IsTextAnswer}
+use Rattle.lrshow_check.specs.Check.{IsCheckAnswer}
+use Rattle.lrshow_arguments.specs.Help.{IsText}
+use Rattle.lrshow_check.specs.Output.{IsOutput}
+
+-- a result is a text that is asked for, with status 0
+abbrev pub IsTextAnswer : Text → Answer → Type 0
+IsTextAnswer asked (Output s) = (text : List ℕ) × IsText asked text × IsOutput 0 text [] s
+IsTextAnswer asked (Fault words) = ⊥
+IsTextAnswer asked Usage = ⊥
+IsTextAnswer asked TooManyActions = ⊥
+IsTextAnswer asked Memory = Unit {0}
 
 -- a result is the text that is asked for, if there is one, and else another result
 abbrev pub IsTextAnswerOr : Type 0 → Option Text → Answer → Type 0

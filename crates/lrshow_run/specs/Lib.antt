@@ -1,9 +1,3 @@
-pub mod Words
-pub mod Output
-pub mod Built
 pub mod Trees
 pub mod Shown
-pub mod Findings
-pub mod Check
-pub mod Help
 pub mod Answers

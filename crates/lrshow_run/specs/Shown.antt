@@ -9,22 +9,22 @@ use Rattle.lalrpop_grammar.specs.declared.repr.grammar.Grammar.{Grammar}
 use Rattle.lalrpop_construction.specs.declared.options.Method.{Method}
 use Rattle.grammar_text.specs.Lines.{is_empty}
 use Rattle.grammar_diagnostics.specs.Nearest.{nearest_name}
-use Rattle.lrtab_run.specs.Shown.{line}
-use Rattle.lrtab_run.specs.declared.answer.Shown.{Shown}
+use Rattle.program_answers.specs.Texts.{line}
+use Rattle.program_answers.specs.declared.answer.Shown.{Shown}
 use Rattle.table_data.specs.Whole.{IsData}
 use Rattle.table_pictures.specs.ConflictStates.{is_conflict_state}
 use Rattle.table_pictures.specs.Escape.{pictured_lines}
 use Rattle.table_pictures.specs.EdgePairs.{edge_pairs}
-use Rattle.table_pictures.specs.declared.edges.Shown.{Shown as StatesShown}
-use Rattle.table_pictures.specs.declared.edges.Shown.TheVariants.{All as AllStates, Around, Only}
+use Rattle.table_pictures.specs.declared.edges.ShownStates.{ShownStates}
+use Rattle.table_pictures.specs.declared.edges.ShownStates.TheVariants.{All as AllStates, Around, Only}
 use Rattle.table_pictures.specs.Graphs.{edge_count, graph, most_edges}
 use Rattle.table_pictures.specs.Page.{page}
 use Rattle.table_pictures.specs.Paths.{AreNear, AreOnShortest}
 use Rattle.conflict_causes.specs.CauseTexts.{IsConflictsText}
-use Rattle.lrshow_run.specs.Built.{AreBuilt}
-use Rattle.lrshow_run.specs.Output.{IsOutput}
+use Rattle.lrshow_check.specs.Built.{AreBuilt}
+use Rattle.lrshow_check.specs.Output.{IsOutput}
 use Rattle.lrshow_run.specs.Trees.{IsParseDrawn}
-use Rattle.lrshow_run.specs.Words.{Choice, All, Near, ToConflicts, Form, TablesIn, TreeOf, TableForm, Json, Graph, Page, Causes}
+use Rattle.lrshow_arguments.specs.Words.{Choice, All, Near, ToConflicts, Form, TablesIn, TreeOf, TableForm, Json, Graph, Page, Causes}
 
 -- ---- the graph
 -- the message if there is no state with the number
@@ -37,19 +37,19 @@ how_to_cut count = if nat_lt most_edges count then decimal count ++ line (codes 
 
 -- what a graph shows of the states near one: at depth 1 the state and its neighbours, and else
 -- exactly the states near it
-abbrev pub IsNearChoice : List (State Bits) → ℕ → ℕ → StatesShown → Type 0
+abbrev pub IsNearChoice : List (State Bits) → ℕ → ℕ → ShownStates → Type 0
 IsNearChoice states number depth AllStates = ⊥
 IsNearChoice states number depth (Around n) = (depth ≡ 1) × (n ≡ number)
 IsNearChoice states number depth (Only flags) = (depth ≡ 1 → ⊥) × AreNear (edge_pairs states) number depth flags.items
 
 -- what a graph shows of the states on shortest paths to conflicts: exactly these
-abbrev pub IsConflictChoice : List (State Bits) → List (Conflict Bits) → StatesShown → Type 0
+abbrev pub IsConflictChoice : List (State Bits) → List (Conflict Bits) → ShownStates → Type 0
 IsConflictChoice states conflicts AllStates = ⊥
 IsConflictChoice states conflicts (Around n) = ⊥
 IsConflictChoice states conflicts (Only flags) = AreOnShortest (edge_pairs states) 0 (is_conflict_state (length states) conflicts) flags.items
 
 -- what a graph shows of states: all; those near one; or those on shortest paths to conflicts
-abbrev pub IsChoiceShown : List (State Bits) → List (Conflict Bits) → Choice → StatesShown → Type 0
+abbrev pub IsChoiceShown : List (State Bits) → List (Conflict Bits) → Choice → ShownStates → Type 0
 IsChoiceShown states conflicts All shown = shown ≡ AllStates
 IsChoiceShown states conflicts (Near number depth) shown = IsNearChoice states number depth shown
 IsChoiceShown states conflicts ToConflicts shown = IsConflictChoice states conflicts shown
@@ -67,7 +67,7 @@ graph_remark states conflicts ToConflicts = no_conflicts (length conflicts)
 
 -- a graph is shown of the states that are asked for
 pub record IsChosenGraph (g : Grammar) (start : NonterminalString) (status : ℕ) (states : List (State Bits)) (conflicts : List (Conflict Bits)) (choice : Choice) (s : Shown) : Type 0 where
-  pub chosen : StatesShown
+  pub chosen : ShownStates
   pub right : IsChoiceShown states conflicts choice chosen
   pub shown : IsOutput status (graph start g.terminals states conflicts chosen) (graph_remark states conflicts choice) s
 

@@ -15,9 +15,10 @@ use Rattle.parse_pictures.specs.RefusalTexts.{refusal_words}
 use Rattle.parse_pictures.specs.TreeGraphs.{tree_statements}
 use Rattle.parse_pictures.specs.TreeLines.{tree_lines}
 use Rattle.table_pictures.specs.Escape.{pictured_lines, pictured_text}
-use Rattle.lrtab_run.specs.declared.answer.Shown.{Shown}
-use Rattle.lrtab_run.specs.Shown.{SaysOfGrammar, line, most_copies}
-use Rattle.lrshow_run.specs.Output.{IsOutput}
+use Rattle.program_answers.specs.declared.answer.Shown.{Shown}
+use Rattle.program_answers.specs.Outcomes.{SaysOfGrammar}
+use Rattle.program_answers.specs.Texts.{line, most_copies}
+use Rattle.lrshow_check.specs.Output.{IsOutput}
 
 -- the limit of a parse that is drawn
 abbrev pub most_steps : ℕ

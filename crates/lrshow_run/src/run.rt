@@ -1,18 +1,19 @@
 //! The program `lrshow`, over any reader and writers.
 ghost use Rattle.std.specs.Prelude.{◌≡◌, map, option_map, string_bytes};
-ghost use Rattle.lrtab_run.specs.Written.{IsResultWritten};
-ghost use Rattle.lrtab_run.specs.declared.answer.Answer.{Answer};
-ghost use Rattle.lrshow_run.specs.Answers.{IsShowAnswer};
-ghost use Rattle.lrshow_run.specs.Check.{IsCheckAnswer};
-ghost use Rattle.lrshow_run.specs.Help.{IsTextAnswer, usage};
-ghost use Rattle.lrshow_run.specs.Words.{check_view, text_view};
+ghost use Rattle.program_answers.specs.Written.{IsResultWritten};
+ghost use Rattle.program_answers.specs.declared.answer.Answer.{Answer};
+ghost use Rattle.lrshow_run.specs.Answers.{IsShowAnswer, IsTextAnswer};
+ghost use Rattle.lrshow_check.specs.Check.{IsCheckAnswer};
+ghost use Rattle.lrshow_arguments.specs.Help.{usage};
+ghost use Rattle.lrshow_arguments.specs.Words.{check_view, text_view};
 
-use crate::check::check_file;
-use crate::help::{USAGE, text_of};
-use crate::words::{Check, Text, check_of, request_of, text_for};
+use crate::request::ShowRequest;
 use lalrpop_tables::build::Method;
-use lrtab_run::answer::{Answer, Shown, answer_to, first_word};
-use lrtab_run::tell::tell;
+use lrshow_arguments::help::{USAGE, text_of};
+use lrshow_arguments::words::{Check, Text, check_of, request_of, text_for};
+use lrshow_check::check::check_file;
+use program_answers::answer::{Answer, Shown, answer_to, first_word};
+use program_answers::tell::tell;
 use std::alloc::Global;
 use std::io::{Read, Write};
 
@@ -57,6 +58,7 @@ pub fn answer_of<R: Read + Drop>(
     let Some(request) = request_of(words) else {
         return Answer::Usage;
     };
+    let request = ShowRequest { request };
     match answer_to(alloc, &request, first_word(words), method, file) {
         Ok(answer) => answer,
         Err(_) => Answer::Memory,

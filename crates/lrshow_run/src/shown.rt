@@ -2,55 +2,34 @@
 ghost use Rattle.std.specs.Prelude.{◌≡◌, ◌<◌, IfOk, [], false, length, option_map, string_bytes};
 ghost use Rattle.grammar_diagnostics.specs.Messages.{name_now};
 ghost use Rattle.lalrpop_base.specs.Words.{IsWellFormed};
-ghost use Rattle.grammar_text.specs.Symbols.{name_of};
-ghost use Rattle.lrshow_run.specs.Output.{IsOutput};
-ghost use Rattle.lrshow_run.specs.Shown.{AreTablesShown, IsAskedShown, IsFormShown, IsChosenGraph, IsGraphShown, IsMadeShown, IsNearChoice, how_to_cut, is_missing, needs_start, no_conflicts, no_start, no_start_text, no_state};
-ghost use Rattle.lrshow_run.specs.Words.{All, Causes, Json, Near, Page, ToConflicts, choice_view, form_view, table_form_view};
+ghost use Rattle.lrshow_check.specs.Output.{IsOutput};
+ghost use Rattle.lrshow_run.specs.Shown.{AreTablesShown, IsFormShown, IsChosenGraph, IsGraphShown, IsMadeShown, IsNearChoice, how_to_cut, is_missing, needs_start, no_conflicts, no_start, no_start_text, no_state};
+ghost use Rattle.lrshow_arguments.specs.Words.{All, Causes, Json, Near, Page, ToConflicts, choice_view, form_view, table_form_view};
 ghost use Rattle.table_data.specs.Whole.{IsData};
 ghost use Rattle.table_pictures.specs.Graphs.{edge_count, graph};
 
-use crate::built::{Built, build};
-use crate::lines::visible_lines;
 use crate::tree::parse_shown;
-use crate::words::{Choice, Form, Request, TableForm};
 use conflict_causes::text::conflicts_text;
 use grammar_diagnostics::nearest::nearest_name;
-use grammar_text::symbols::name_of;
 use lalrpop_base::lr1_core::state::Lr1State;
 use lalrpop_base::memory::OutOfMemory;
 use lalrpop_base::repr::NonterminalString;
 use lalrpop_base::repr::grammar::Grammar;
 use lalrpop_tables::build::Method;
-use lrtab_run::answer::Shown;
-use lrtab_run::ask::Ask;
+use lrshow_arguments::words::{Choice, Form, TableForm};
+use lrshow_check::built::{Built, build};
+use lrshow_check::lines::visible_lines;
+use program_answers::answer::Shown;
 use std::alloc::Global;
 use table_data::whole::tables_json;
 use table_pictures::dot::{edge_count, graph_text};
-use table_pictures::edges::Shown as StatesShown;
+use table_pictures::edges::ShownStates;
 use table_pictures::near::states_near;
 use table_pictures::page::page_text;
 use table_pictures::to_conflicts::states_to_conflicts;
 
-impl Ask for Request<'_> {
-    ghost IsShown = { λ request method g s.
-        IsAskedShown method g (name_of request.start.now) (form_view request.form) s };
-
-    fn shown(
-        &self,
-        alloc: Global,
-        method: Method,
-        grammar: &Grammar,
-    ) -> Result<Shown, OutOfMemory> {
-        let start = name_of(alloc, self.start)?;
-        if is_missing(grammar, &start, self.form) {
-            return no_start(alloc, grammar, &start);
-        }
-        made_shown(alloc, grammar, start, method, self.form)
-    }
-}
-
-// Whether a form needs a production of the start symbol, and there is none.
-fn is_missing(grammar: &Grammar, start: &NonterminalString, form: Form<'_>) -> bool
+/// Whether a form needs a production of the start symbol, and there is none.
+pub(crate) fn is_missing(grammar: &Grammar, start: &NonterminalString, form: Form<'_>) -> bool
     ensures { result ≡ is_missing grammar.now start.now (form_view form.entry) }
 {
     needs_start(form) && grammar.productions_for(start).is_empty()
@@ -67,8 +46,9 @@ fn needs_start(form: Form<'_>) -> bool
     }
 }
 
-// What is shown if the start symbol has no production.
-fn no_start(
+/// What is shown if the start symbol has no production. The error is `OutOfMemory` if an
+/// allocation fails.
+pub(crate) fn no_start(
     alloc: Global,
     grammar: &Grammar,
     start: &NonterminalString,
@@ -98,8 +78,9 @@ fn no_start_text(
     }
 }
 
-// What is shown of the tables of a grammar, or of a parse by them.
-fn made_shown(
+/// What is shown of the tables of a grammar, or of a parse by them. The error is `OutOfMemory` if
+/// an allocation fails.
+pub(crate) fn made_shown(
     alloc: Global,
     grammar: &Grammar,
     start: NonterminalString,
@@ -269,7 +250,7 @@ fn whole_graph<'grammar>(
         built.now.states.items built.now.conflicts.items All) }
 {
     let remark = how_to_cut(alloc, edge_count(&built.states))?;
-    let text = graph(alloc, grammar, start, built, &StatesShown::All)?;
+    let text = graph(alloc, grammar, start, built, &ShownStates::All)?;
     Ok(drawn(built.status, text, remark))
 }
 
@@ -310,14 +291,14 @@ fn near_choice(
     states: &[Lr1State<'_>],
     number: usize,
     depth: usize,
-) -> Result<StatesShown, OutOfMemory>
+) -> Result<ShownStates, OutOfMemory>
     requires { number < length states.now }
     ensures { IfOk result (IsNearChoice states.now number depth) }
 {
     if depth == 1 {
-        return Ok(StatesShown::Around(number));
+        return Ok(ShownStates::Around(number));
     }
-    Ok(StatesShown::Only(states_near(alloc, states, number, depth)?))
+    Ok(ShownStates::Only(states_near(alloc, states, number, depth)?))
 }
 
 // What is shown for the graph of the states on shortest paths to conflicts.
@@ -330,7 +311,7 @@ fn graph_to_conflicts<'grammar>(
     ensures { IfOk result (IsChosenGraph grammar.now start.now built.now.status
         built.now.states.items built.now.conflicts.items ToConflicts) }
 {
-    let chosen = StatesShown::Only(states_to_conflicts(alloc, &built.states, &built.conflicts)?);
+    let chosen = ShownStates::Only(states_to_conflicts(alloc, &built.states, &built.conflicts)?);
     let remark = no_conflicts(alloc, built.conflicts.len())?;
     let text = graph(alloc, grammar, start, built, &chosen)?;
     Ok(drawn(built.status, text, remark))
@@ -352,7 +333,7 @@ fn graph<'grammar>(
     grammar: &'grammar Grammar,
     start: &NonterminalString,
     built: &Built<'grammar>,
-    chosen: &StatesShown,
+    chosen: &ShownStates,
 ) -> Result<String, OutOfMemory>
     ensures { IfOk result (λ text. string_bytes text ≡ graph start.now grammar.now.terminals
         built.now.states.items built.now.conflicts.items chosen.now) }

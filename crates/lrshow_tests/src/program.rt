@@ -21,12 +21,13 @@ const USAGE: &str =
 
 /// The data of `ONE_TERMINAL`, by the canonical method.
 const DATA: &str = "{\"format\":\"lrshow\",
-\"version\":2,
+\"version\":3,
 \"start\":\"S\",
 \"terminals\":[\"x\"],
 \"productions\":[{\"number\":0,\"nonterminal\":\"S\",\"symbols\":[{\"terminal\":\"x\"}]}],
-\"states\":[{\"number\":0,\"items\":[{\"production\":0,\"dot\":0,\"lookahead\":[null]}],\"shifts\":{\"x\":1},\"gotos\":{},\"reductions\":[]},
-{\"number\":1,\"items\":[{\"production\":0,\"dot\":1,\"lookahead\":[null]}],\"shifts\":{},\"gotos\":{},\"reductions\":[{\"production\":0,\"lookahead\":[null]}]}],
+\"sets\":[[null]],
+\"states\":[{\"number\":0,\"items\":[{\"production\":0,\"dot\":0,\"lookahead\":0}],\"shifts\":{\"x\":1},\"gotos\":{},\"reductions\":[]},
+{\"number\":1,\"items\":[{\"production\":0,\"dot\":1,\"lookahead\":0}],\"shifts\":{},\"gotos\":{},\"reductions\":[{\"production\":0,\"lookahead\":0}]}],
 \"conflicts\":[],
 \"causes\":[]}
 ";
@@ -157,12 +158,22 @@ fn checks(rt: HostRuntime) -> Result<(), Fail> {
         ),
         (
             CONFLICT,
-            "f:3:5: warning: the right side is that of line 2; leave one of the two out\nf:1:1: warning: 1 conflict; `lrshow FILE START conflicts` shows their causes\n",
+            "f:3:5: warning: the right side is that of line 2; leave one of the two out\nf:2:1: warning: reduce/reduce conflict on \"p\" in state 2: reduce N = \"n\", or reduce N = \"n\"; see `lrshow FILE START conflicts`\n",
+            1,
+        ),
+        (
+            "S = E\nE = E O E\ninline O\nO = \"+\"\nE = \"n\"\n",
+            "f:2:1: warning: shift/reduce conflict on \"+\" in state 4: reduce E = E \"+\" E, or shift by E = E (*) \"+\" E; see `lrshow FILE START conflicts`\n",
+            1,
+        ),
+        (
+            "T = \"t\"\n",
+            "f:1:1: warning: `S` has no production; name another start symbol\n",
             1,
         ),
         (
             "S = I\ninline I\nI = I \"x\"\nI =\n",
-            "f:2:1: error: `I` would have to be inlined into itself; leave a mark out\n",
+            "f:2:8: error: `I` would have to be inlined into itself; leave a mark out\n",
             2,
         ),
     ] {

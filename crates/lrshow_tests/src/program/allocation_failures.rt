@@ -136,6 +136,65 @@ fn each_growth_of_a_page_of_conflicts(rt: HostRuntime) -> Result<(), Fail> {
 }
 
 #[test]
+fn each_growth_to_conflicts(rt: HostRuntime) -> Result<(), Fail> {
+    refused_by_both(&rt, rt.alloc(), CONFLICT, "f S dot --conflicts", 1)
+}
+
+#[test]
+fn each_growth_near_a_state(rt: HostRuntime) -> Result<(), Fail> {
+    let line = "f S dot --around 2 --depth 2";
+    each_growth_refused(&rt, rt.alloc(), Method::Lane, CONFLICT, line, 1)
+}
+
+#[test]
+fn each_growth_of_causes(rt: HostRuntime) -> Result<(), Fail> {
+    refused_by_both(&rt, rt.alloc(), CONFLICT, "f S conflicts", 1)
+}
+
+#[test]
+fn each_growth_of_a_check(rt: HostRuntime) -> Result<(), Fail> {
+    refused_by_both(&rt, rt.alloc(), CONFLICT, "f S check", 1)
+}
+
+#[test]
+fn each_growth_of_a_check_as_data(rt: HostRuntime) -> Result<(), Fail> {
+    each_growth_refused(
+        &rt,
+        rt.alloc(),
+        Method::Lane,
+        CONFLICT,
+        "f S check --json",
+        1,
+    )
+}
+
+#[test]
+fn each_growth_of_other_checks(rt: HostRuntime) -> Result<(), Fail> {
+    for (text, line, status) in [
+        ("S = A |\n", "f S check", 2),
+        ("S = I\ninline I\nI = I\n", "f S check", 2),
+        ("Sum = Sun\n", "f Su check", 1),
+    ] {
+        each_growth_refused(&rt, rt.alloc(), Method::Lane, text, line, status)?;
+    }
+    Ok(())
+}
+
+#[test]
+fn each_growth_of_a_tree(rt: HostRuntime) -> Result<(), Fail> {
+    for (line, status) in [
+        ("f S tree x", 0),
+        ("f S tree --dot x", 0),
+        ("f S tree x x", 1),
+        ("f S tree", 1),
+        ("f T tree x", 2),
+    ] {
+        each_growth_refused(&rt, rt.alloc(), Method::Lane, ONE_TERMINAL, line, status)?;
+    }
+    Ok(())
+}
+
+#[test]
 fn each_growth_of_a_faulty_grammar(rt: HostRuntime) -> Result<(), Fail> {
     for (text, line) in [
         ("S x", "f S json"),

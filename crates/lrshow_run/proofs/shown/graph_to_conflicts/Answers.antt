@@ -5,7 +5,7 @@ use Rattle.lalrpop_states.specs.declared.lr1_core.state.State.{State}
 use Rattle.table_pictures.specs.ConflictStates.{is_conflict_state}
 use Rattle.table_pictures.specs.EdgePairs.{edge_pairs}
 use Rattle.table_pictures.specs.Paths.{AreOnShortest}
-use Rattle.table_pictures.specs.declared.edges.Shown.TheVariants.{Only}
+use Rattle.table_pictures.specs.declared.edges.ShownStates.TheVariants.{Only}
 use Rattle.lrshow_run.specs.Shown.{no_conflicts}
 use Rattle.lrshow_run.proofs.shown.graph_to_conflicts.Goals as goal
 

@@ -1,6 +1,6 @@
 use Rattle.std.proofs.Common.{◌∙◌, ap}
 use Rattle.std.proofs.lemmas.Result.{IfOk-weaker}
-use Rattle.lrtab_run.specs.Shown.{line}
+use Rattle.program_answers.specs.Texts.{line}
 use Rattle.table_pictures.specs.Escape.{pictured_text}
 use Rattle.lrshow_run.proofs.tree.refusal_shown.Goals as goal
 

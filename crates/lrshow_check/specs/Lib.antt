@@ -1,0 +1,4 @@
+pub mod Output
+pub mod Built
+pub mod Findings
+pub mod Check
