@@ -9,18 +9,16 @@
 
 mod ask;
 mod compare;
-mod making;
 mod refuse;
 mod show;
-mod timing;
 
 use crate::compare::{Tally, compare_file};
-use crate::making::{MOST, print_grammar};
 use crate::refuse::refuse_in_files;
-use crate::timing::time_file;
 use anyhow::Context;
+use made_grammars::making::{MOST, print_grammar};
 use std::process::ExitCode;
 use std::{env, fs};
+use table_timing::timing::time_file;
 
 const USAGE: &str =
     "usage: lalrpop_bench FILE.. | refuse FILE.. | time FILE START | make KIND SIZE";

@@ -1,19 +1,21 @@
 //! Grammars that are made by rules, so that the tables of large ones can be timed. The start symbol
 //! of each is `S`, which is on no right side.
+mod ambiguous;
 mod keywords;
 mod levels;
 
 ghost use Rattle.std.specs.Prelude.{◌≤◌};
 
+use ambiguous::{print_diamonds, print_ring, print_twins};
 use keywords::print_keywords;
 use levels::{print_brackets, print_levels, print_operators, print_statements};
 use std::io;
 
 /// The greatest size of a grammar.
-pub(crate) const MOST: usize = 1_000_000;
+pub const MOST: usize = 1_000_000;
 
 /// Prints the grammar of a kind and a size. The result is `false` if there is no such kind.
-pub(crate) fn print_grammar(rt: &HostRuntime, kind: &str, size: usize) -> io::Result<bool>
+pub fn print_grammar(rt: &HostRuntime, kind: &str, size: usize) -> io::Result<bool>
     requires { size ≤ 1000000 }
 {
     match kind {
@@ -26,6 +28,9 @@ pub(crate) fn print_grammar(rt: &HostRuntime, kind: &str, size: usize) -> io::Re
         "marked" => print_chain(rt, "inline", size)?,
         "long" => print_long(rt, size)?,
         "terminals" => print_terminals(rt, size)?,
+        "diamonds" => print_diamonds(rt, size)?,
+        "ring" => print_ring(rt, size)?,
+        "twins" => print_twins(rt, size)?,
         _ => return Ok(false),
     }
     Ok(true)

@@ -16,7 +16,7 @@ use std::{fs, io};
 
 /// Prints the time of each part for a file and a start symbol, and returns the exit status: 2 if
 /// the file gives no grammar. `None` if the start symbol is no name.
-pub(crate) fn time_file(rt: &HostRuntime, name: &str, start: &str) -> anyhow::Result<Option<u8>> {
+pub fn time_file(rt: &HostRuntime, name: &str, start: &str) -> anyhow::Result<Option<u8>> {
     if !is_a_name(start) {
         return Ok(None);
     }

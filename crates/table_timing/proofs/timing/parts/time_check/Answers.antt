@@ -1,4 +1,4 @@
-use Rattle.lalrpop_bench.proofs.timing.parts.time_check.Goals as goal
+use Rattle.table_timing.proofs.timing.parts.time_check.Goals as goal
 
 pub check_tables-requires-clause-coherent : goal.check_tables-requires-clause-coherent
 check_tables-requires-clause-coherent c = c.are_coherent.ensures.0 c.if-not-are_coherent.false
