@@ -1,6 +1,4 @@
 // What calls leave after a refused allocation.
 mod calls;
 mod parses;
-mod reports;
 mod runs;
-mod traces;

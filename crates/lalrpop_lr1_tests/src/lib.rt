@@ -1,5 +1,5 @@
-//! Tests of the parser, traces, reports and inlining that no case file can express: values that no
-//! text gives, writers that stop, and what is left after a refused allocation.
+//! Tests of the parser and of inlining that no case file can express: values that no text gives, and
+//! what is left after a refused allocation.
 #![tactic(auto)]
 
 #[cfg(test)]
@@ -7,8 +7,4 @@ mod allocation_failures;
 #[cfg(test)]
 mod inlining;
 #[cfg(test)]
-mod traces;
-#[cfg(test)]
 mod trees;
-#[cfg(test)]
-mod writers;

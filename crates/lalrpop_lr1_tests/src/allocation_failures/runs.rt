@@ -1,18 +1,15 @@
-// Builders of grammars, parses by tables, and reports, while allocations are refused.
-use crate::writers::{Taking, WITHOUT_LOOKAHEAD};
+// Builders of grammars, and parses by tables, while allocations are refused.
 use grammar_text::builder::GrammarBuilder;
 use grammar_text::builder_error::BuilderError;
 use grammar_text::symbols::name_of;
-use lalrpop_base::lookahead::nil::Nil;
 use lalrpop_base::lr1_core::coherent::are_coherent;
-use lalrpop_base::lr1_core::state::{Lr1State, LrResult};
+use lalrpop_base::lr1_core::state::Lr1State;
 use lalrpop_base::repr::grammar::Grammar;
 use lalrpop_base::repr::terminals::TerminalSet;
 use lalrpop_base::repr::{NonterminalString, TerminalString};
 use lalrpop_lr1::interpret::{InterpretError, ParseTree, interpret};
-use lalrpop_lr1::report::{Counted, ReportError, ReportGenerator, Sink};
+use lalrpop_tables::build::build_lr1_states;
 use lalrpop_tables::build::options::Options;
-use lalrpop_tables::build::{build_lr0_states, build_lr1_states};
 use refused_growth::attempts::Attempt;
 use std::alloc::Global;
 use std::test::Fail;
@@ -161,50 +158,4 @@ fn a_parse(rt: HostRuntime) -> Result<(), Fail> {
         tree: difference(alloc)?,
     };
     each_growth_refused(alloc, &mut run)
-}
-
-// A report to a writer that has enough room. If the text cannot be made, no byte goes to the
-// writer.
-#[derive(Drop)]
-struct Report<'a, 'g> {
-    out: Counted<Taking>,
-    terminals: &'a TerminalSet,
-    outcome: &'a LrResult<'g, Nil>,
-}
-
-impl Attempt for Report<'_, '_> {
-    fn attempt(&mut self, alloc: Global) -> Option<bool> {
-        if self.out.faults() > 0 {
-            return Some(false);
-        }
-        let mut generator = ReportGenerator::new(&mut self.out, self.terminals);
-        match generator.report_lr_table_construction(alloc, self.outcome) {
-            Ok(()) => Some(true),
-            Err(ReportError::Memory) => None,
-            Err(_) => Some(false),
-        }
-    }
-}
-
-#[test]
-fn a_report(rt: HostRuntime) -> Result<(), Fail> {
-    let alloc = rt.alloc();
-    let grammar = grammar(alloc, ONE)?;
-    let outcome = build_lr0_states(alloc, &grammar, name_of(alloc, "S")?);
-    let taking = Taking {
-        taken: Vec::with_capacity(alloc, 1000)?,
-        step: 1000,
-        left: 1000,
-        fault: None,
-    };
-    let mut report = Report {
-        out: Counted::new(taking),
-        terminals: &grammar.terminals,
-        outcome: &outcome,
-    };
-    each_growth_refused(alloc, &mut report)?;
-    let Report { out, .. } = report;
-    let taken = out.into_inner().taken;
-    assert_eq!(rt; taken.as_slice(), WITHOUT_LOOKAHEAD.as_bytes());
-    Ok(())
 }

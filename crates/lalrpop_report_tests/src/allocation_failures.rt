@@ -1,9 +1,11 @@
 // Reports of LR(1) states, and the sink over a list of bytes, while allocations are refused.
-use crate::writers::{ONE_TERMINAL, Taking};
+use crate::writers::{ONE_TERMINAL, Taking, WITHOUT_LOOKAHEAD};
 use grammar_text::symbols::name_of;
-use lalrpop_base::lr1_core::state::Lr1Result;
+use lalrpop_base::lookahead::nil::Nil;
+use lalrpop_base::lr1_core::state::{Lr1Result, LrResult};
 use lalrpop_base::repr::terminals::TerminalSet;
-use lalrpop_lr1::report::{Counted, ReportError, Sink, generate_report};
+use lalrpop_report::report::{Counted, ReportError, ReportGenerator, Sink, generate_report};
+use lalrpop_tables::build::build_lr0_states;
 use lalrpop_tables::build::options::Options;
 use lalrpop_tables::lr1::build_states;
 use refused_growth::attempts::Attempt;
@@ -107,5 +109,51 @@ fn a_sink_of_bytes(rt: HostRuntime) -> Result<(), Fail> {
     let all = String::from_utf8(out.into_inner())?;
     assert!(rt; all.as_str().starts_with(FULL) && all.as_str().ends_with("9bytes"));
     assert_eq!(rt; all.as_str().len(), 45);
+    Ok(())
+}
+
+// A report to a writer that has enough room. If the text cannot be made, no byte goes to the
+// writer.
+#[derive(Drop)]
+struct Report<'a, 'g> {
+    out: Counted<Taking>,
+    terminals: &'a TerminalSet,
+    outcome: &'a LrResult<'g, Nil>,
+}
+
+impl Attempt for Report<'_, '_> {
+    fn attempt(&mut self, alloc: Global) -> Option<bool> {
+        if self.out.faults() > 0 {
+            return Some(false);
+        }
+        let mut generator = ReportGenerator::new(&mut self.out, self.terminals);
+        match generator.report_lr_table_construction(alloc, self.outcome) {
+            Ok(()) => Some(true),
+            Err(ReportError::Memory) => None,
+            Err(_) => Some(false),
+        }
+    }
+}
+
+#[test]
+fn a_report(rt: HostRuntime) -> Result<(), Fail> {
+    let alloc = rt.alloc();
+    let grammar = grammar(alloc, ONE)?;
+    let outcome = build_lr0_states(alloc, &grammar, name_of(alloc, "S")?);
+    let taking = Taking {
+        taken: Vec::with_capacity(alloc, 1000)?,
+        step: 1000,
+        left: 1000,
+        fault: None,
+    };
+    let mut report = Report {
+        out: Counted::new(taking),
+        terminals: &grammar.terminals,
+        outcome: &outcome,
+    };
+    each_growth_refused(alloc, &mut report)?;
+    let Report { out, .. } = report;
+    let taken = out.into_inner().taken;
+    assert_eq!(rt; taken.as_slice(), WITHOUT_LOOKAHEAD.as_bytes());
     Ok(())
 }

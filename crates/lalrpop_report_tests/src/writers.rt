@@ -5,7 +5,7 @@ use grammar_text::symbols::name_of;
 use lalrpop_base::lookahead::nil::Nil;
 use lalrpop_base::lr1_core::state::{BuildError, Lr1Result, LrResult, TableConstructionError};
 use lalrpop_base::repr::terminals::TerminalSet;
-use lalrpop_lr1::report::{Counted, ReportError, ReportGenerator, Sink, generate_report};
+use lalrpop_report::report::{Counted, ReportError, ReportGenerator, Sink, generate_report};
 use lalrpop_tables::build::build_lr0_states;
 use lalrpop_tables::build::options::Options;
 use lalrpop_tables::lr1::build_states;

@@ -3,7 +3,7 @@ use grammar_text::symbols::{literals, name_of};
 use lalrpop_base::lr1_core::item::Item;
 use lalrpop_base::repr::grammar::Grammar;
 use lalrpop_base::repr::terminals::TerminalSet;
-use lalrpop_lr1::trace::{TraceGraph, TraceGraphNode};
+use lalrpop_traces::trace::{TraceGraph, TraceGraphNode};
 use std::alloc::Global;
 use std::test::Fail;
 use test_fixtures::texts::{ONE, first_production, grammar};

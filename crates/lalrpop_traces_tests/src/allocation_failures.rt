@@ -7,7 +7,9 @@ use lalrpop_base::lr1_core::symbol_sets::SymbolSets;
 use lalrpop_base::memory::OutOfMemory;
 use lalrpop_base::repr::Production;
 use lalrpop_base::repr::grammar::{Grammar, is_well_formed};
-use lalrpop_lr1::trace::{NodeIndex, PathEnumerator, TraceGraph, TraceGraphEdge, TraceGraphNode};
+use lalrpop_traces::trace::{
+    NodeIndex, PathEnumerator, TraceGraph, TraceGraphEdge, TraceGraphNode,
+};
 use refused_growth::attempts::Attempt;
 use std::alloc::Global;
 use std::test::Fail;

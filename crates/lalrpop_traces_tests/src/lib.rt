@@ -1,0 +1,8 @@
+//! Tests of traces that no case file can express: values that no text gives, and what is left after a
+//! refused allocation.
+#![tactic(auto)]
+
+#[cfg(test)]
+mod allocation_failures;
+#[cfg(test)]
+mod traces;
