@@ -1,5 +1,6 @@
 """Files of the repository as texts."""
 import os
+import re
 
 ROOT = os.path.realpath(f"{os.path.dirname(os.path.realpath(__file__))}/../..")
 
@@ -24,10 +25,18 @@ def files_below(top):
     return sorted(f"{at}/{it}" for at, _, names in os.walk(top) for it in names if "__pycache__" not in at)
 
 
-def listed(root):
+def named(root):
     """The crates that crates.txt names, lowest first, each with the words behind its name."""
     rows = [it.partition(":") for it in read(f"{root}/crates.txt").splitlines() if ":" in it and it[0] != "#"]
     return {name: words.split() for name, _, words in rows}
+
+
+def listed(root):
+    """As `named`. But a comment `# waits for A: B C` says that B and C name A only so that A is proved
+    first. So A is left out there."""
+    waits = re.findall(r"(?m)^# waits for (\w+): (.*)$", read(f"{root}/crates.txt"))
+    left_out = {(name, it) for it, names in waits for name in names.split()}
+    return {name: [it for it in words if (name, it) not in left_out] for name, words in named(root).items()}
 
 
 def below(name, crates):

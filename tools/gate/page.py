@@ -35,6 +35,7 @@ WITHIN = "document.documentElement.scrollWidth <= innerWidth"
 FOCUS = "document.activeElement"
 HERE_IS = f"{FOCUS}.id === 's%s' && location.hash === '#s%s' && {FOCUS}.querySelector('.columns') !== null"
 LINK = "document.querySelector('#s%s a[href=\"#s%s\"]').click()"
+TOKENS = "(draw(document.getElementById('s%s')), document.querySelector('#s%s .tokens').textContent)"
 INSIDE = f"[{FOCUS}.closest('article, .line').id, getComputedStyle({FOCUS}).outlineStyle]"
 SEARCHES = """["4321", "noun", "E", '"'].map((text) => { wanted.value = text; const begun = performance.now();
   wanted.dispatchEvent(new Event("input")); return Math.round(performance.now() - begun); })"""
@@ -162,6 +163,7 @@ class Trials:
         self.check_place("the link back", 0, "", LINK % (to, 0))
         self.check_place("back", to, "", "history.back()")
         self.check_place("forward", 0, "", "history.forward()")
+        self.check_asked("the tokens of a reduction", TOKENS % (7, 7), ' on ")" "-" Eof')
         for width, scheme in ((400, "dark"), (1280, "light")):
             self.browser.look(width, scheme)
             self.picture(f"sums-{width}-{scheme}")
@@ -173,6 +175,8 @@ class Trials:
         trees = self.ask("[...document.querySelectorAll('#c1 .tree')].map((it) => it.innerText.split('•').length)")
         is_right = trees == [2] * sum(len(it["examples"]) for it in items) and len(items) == 2
         self.check("the trees of a conflict, with a dot each", is_right, trees)
+        head = f'in State {data["conflicts"][0]["state"]}, on "else"'
+        self.check_asked("the tokens of a conflict", "document.querySelector('#c1 p').textContent", head)
         self.picture("dangling")
         self.browser.call("POST", "/print", {})
         undrawn = "[...document.querySelectorAll('article')].filter((it) => it.children.length < 2).length"
@@ -232,7 +236,10 @@ def main(words, browse=Browser):
     if len(words) > 2 or not os.access(program, os.X_OK):
         print(__doc__ if len(words) > 2 else f"{program}: no such program (rt ci leaves one after all is proved)")
         return 2
+    pictures = words[1] if len(words) > 1 else ""
+    if pictures:
+        os.makedirs(pictures, exist_ok=True)
     with tempfile.TemporaryDirectory() as folder:
-        trials = Trials(program, folder, words[1] if len(words) > 1 else "", browse())
+        trials = Trials(program, folder, pictures, browse())
         trials.run()
     return 1 if trials.bad else 0

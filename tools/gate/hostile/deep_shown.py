@@ -16,6 +16,7 @@ from gate.hostile.verdicts import Answer, Request
 from gate.shown import checks, doubts, graph, page, tree
 from gate.shown import data as shown_data
 from gate.shown.data import expect
+from gate.shown.places import Finding, lines_of
 
 EQUAL, STATES, RING = 142, 400, 400
 # How deep a tree is whose lines are written. Each level has two blanks more than the one before.
@@ -74,16 +75,18 @@ def check_graph(answer, around, conflicts):
 
 
 # ---- checks
-def checked(lines, form, conflicts):
-    """A check that is right by the definitions, of few names."""
+def checked(lines, form, causes):
+    """A check that is right by the definitions, of few names. Each cause is about equal lines."""
     text, start = "".join(f"{it}\n" for it in lines), start_of(lines)
-    return trial(lines, f"{start} {form}", functools.partial(check_findings, text, start, form, conflicts))
+    return trial(lines, f"{start} {form}", functools.partial(check_findings, text, start, form, causes))
 
 
-def check_findings(text, start, form, conflicts, answer):
+def check_findings(text, start, form, causes, answer):
     expect(answer.stderr == b"", "a text on standard error")
     check = checks.check_json if form == "check --json" else checks.check
-    check(answer.status, answer.stdout.decode(), text, start, "g", conflicts)
+    places = [it.place(0) for it in lines_of(text) if it.words] if causes else []
+    choices = [Finding("warning", *it, EQUAL_LINES, checks.CONFLICTS) for it in places]
+    check(answer.status, answer.stdout.decode(), text, start, "g", None if causes is None else causes * [choices])
 
 
 def said(place, kind, name):
@@ -92,27 +95,29 @@ def said(place, kind, name):
     return f"g:{place}: warning: {says.format(name)}; {hint}\n"
 
 
-def counted(count):
-    """The line on conflicts."""
-    it, = checks.conflicts_of(count)
-    return f"g:1:1: warning: {it.message}; {it.hint}\n"
+def collides(line, token, one, other):
+    """The line on a cause of two reductions, without its state."""
+    return f"g:{line}:1: warning: reduce/reduce conflict on {token}: reduce {one}, or reduce {other}; {checks.CONFLICTS}\n"
 
 
-def ways_back(first):
-    """The lines on the names of the ring, of which the first is before the `=` of some line."""
-    ways = [" ".join(f"`{it}`" for it in (*ROUND[at:], *ROUND[: at + 1])) for at in range(RING)]
-    lines = [said(f"{first + at}:1", "cyclic", it) for at, it in enumerate(ROUND)]
-    return "".join(line.replace("derives itself", f"derives itself: {way}") for line, way in zip(lines, ways))
+def without_state(check, answer):
+    check(answer._replace(stdout=re.sub(rb"(?m)( conflict on .*?) in state [0-9]+: ", rb"\1: ", answer.stdout)))
+
+
+def cyclic(first):
+    """The lines on the names of the ring, of which the first is before the `=` of some line. The way
+    back is too long to be said."""
+    return "".join(said(f"{first + at}:1", "cyclic", it) for at, it in enumerate(ROUND))
 
 
 def check_ring(expected, answer):
-    """The expected lines, and after them the error of one of the names of the ring."""
+    """The error of one of the names of the ring, and after it the expected lines."""
     expect((answer.status, answer.stderr) == (2, b""), "expected status 2, and nothing on standard error")
     rest = "would have to be inlined into itself; leave a mark out"
     errors = {f"g:{at + 2}:1: error: `{it}` {rest}\n".encode() for at, it in enumerate(ROUND)}
     lines = answer.stdout.splitlines(keepends=True)
-    expect(lines and lines[-1] in errors, f"expected an error at the end, not {lines[-1:]}")
-    check_text(expected.encode(), b"".join(lines[:-1]), "standard output")
+    expect(lines and lines[0] in errors, f"expected an error at the beginning, not {lines[:1]}")
+    check_text(expected.encode(), b"".join(lines[1:]), "standard output")
 
 
 # ---- causes of conflicts
@@ -138,12 +143,13 @@ def derived(root, *derivations):
 
 
 LAST = f"A{len(SUFFIXES) - 4}"
-TWICE = reduced("Eof", *2 * ['S = "x"'], derived("S", *2 * ['[S: "x"]']))
-SUFFIXED = reduced('"z"', *2 * [f'{LAST} = "x"'], derived(LAST, *2 * [f'[{LAST}: "x"]']))
-AROUND = "[S: " + "".join(f"[{it}: " for it in ROUND) + "N0" + "]" * (RING + 1)
-RINGED = reduced("Eof", "S = N0", f"{ROUND[-1]} = N0", derived("S", "[S: N0]", AROUND))
+TWICE = reduced("Eof", *2 * ['S = "x"'], derived("S", *2 * ['[S: "x" (*)]']))
+SUFFIXED = reduced('"z"', *2 * [f'{LAST} = "x"'], derived(LAST, *2 * [f'[{LAST}: "x" (*)]']))
+AROUND = "[S: " + "".join(f"[{it}: " for it in ROUND) + "N0 (*)" + "]" * (RING + 1)
+RINGED = reduced("Eof", "S = N0", f"{ROUND[-1]} = N0", derived("S", "[S: N0 (*)]", AROUND))
 CUT = reduced(
-    '"c"', 'B = "y"', 'A = "y"', "  no input with two derivations was found: the search was cut after 10000 steps\n")
+    '"c"', 'B = "y"', 'A = "y"', "  no input with two derivations was found: the search was cut at 10000 steps or its memory limit\n"
+    '  an input for each action:\n    reduce  "y" (*) "c" "q"\n    reduce  "y" (*) L "p"\n')
 
 
 # ---- trees
@@ -177,7 +183,9 @@ def nested(names, text):
 
 
 LONG_NAME = [f"S = {NAME}", f'{NAME} = "x"']
-# Names, lines, how many conflicts they have, and the forms that are tried.
+# What is said of two equal lines of which either can be reduced.
+EQUAL_LINES = 'reduce/reduce conflict on Eof in state 1: reduce S = "x", or reduce S = "x"'
+# Names, lines, how many conflicts they have, each with a cause of its own, and the forms that are tried.
 FORMS, CHECKS = ("json", "dot", "html"), ("check", "check --json")
 SHAPES = (
     # Of equal productions each two are in conflict.
@@ -197,14 +205,17 @@ SHAPES = (
 )
 # Those of many names, of which the definitions take long.
 SLOW_CHECKS = {
-    # (5 and 10 seconds, measured)
+    # (0.1 and 1.3 seconds, measured)
     "units": lambda: trial(CHAIN, "N0 check", shows(""), seconds=30, methods=LANE),
     "suffixes": lambda: trial(
-        SUFFIXES, "S check", shows(said(f"{len(SUFFIXES) - 1}:9", "repeated", len(SUFFIXES) - 2) + counted(1), 1),
+        SUFFIXES, "S check", functools.partial(without_state, shows(
+            said(f"{len(SUFFIXES) - 1}:9", "repeated", len(SUFFIXES) - 2)
+            + collides(len(SUFFIXES) - 2, '"z"', *2 * [f'{LAST} = "x"']), 1)),
         seconds=60, methods=LANE),
-    "ring": lambda: trial(RINGS, "S check", shows(ways_back(2) + counted(1), 1)),
+    "ring": lambda: trial(RINGS, "S check", functools.partial(without_state, shows(
+        cyclic(2) + collides(RING + 1, "Eof", f"{ROUND[-1]} = N0", "S = N0"), 1))),
     "marked_ring": lambda: trial(
-        [*RINGS, *marks("N", RING)], "S check", functools.partial(check_ring, ways_back(2))),
+        [*RINGS, *marks("N", RING)], "S check", functools.partial(check_ring, cyclic(2))),
     "empty_lines": lambda: little(empty_lines(), "S check", shows(""), 384),
     "fault_after_empty_lines": lambda: little(
         "\r\n" * BLANKS + "S x", "S check",

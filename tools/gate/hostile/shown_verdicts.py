@@ -107,12 +107,12 @@ def check_shown(answer, request, data):
 
 
 def check_check(answer, request, text, data):
-    """A check of a text is right. The data, or None where none are expected, have the conflicts."""
+    """A check of a text is right. The data, or None where none are expected, have the causes of conflicts."""
     text = b"" if request.file.startswith("/") else text
     expect(answer.stderr == b"", "a text on standard error")
     check = checks.check_json if request.task == "check --json" else checks.check
-    count = None if data is None else len(data["conflicts"])
-    check(answer.status, answer.stdout.decode(), text.decode(), request.start, request.file, count)
+    caused = None if data is None else [*checks.caused(data, text.decode())]
+    check(answer.status, answer.stdout.decode(), text.decode(), request.start, request.file, caused)
 
 
 def fault_of(text, words, answer, data_answer):

@@ -29,7 +29,7 @@ import time
 from concurrent.futures import ThreadPoolExecutor
 from threading import BoundedSemaphore
 
-from gate.files import ROOT, below, listed
+from gate.files import ROOT, below, listed, named
 from gate.mutants.basis import Repository
 from gate.mutants.kept import Kept
 from gate.mutants.ledger import Ledger
@@ -103,7 +103,7 @@ def tried(root, name, mutants, how, lanes, libraries):
     trial = Trial(name, mutants, Kept(name, root, how.anew))
     try:
         if how.beside and trial.left:
-            wait_for(below(name, listed(root)), how.beside)
+            wait_for(below(name, named(root)), how.beside)
         with lanes, tempfile.TemporaryDirectory(prefix="mutants-") as room:
             if trial.left:
                 crate = prepared(name, root, room, not how.beside, libraries)

@@ -9,7 +9,7 @@ import subprocess
 import threading
 import time
 
-from gate.files import below, files_below, listed, read, write
+from gate.files import below, files_below, named, read, write
 
 PARTS = ("src", "specs", "proofs")
 # How many processes a check has.
@@ -81,7 +81,7 @@ def mark_as_built(names, room):
 def prepared(name, root, room, keeps, libraries):
     """Makes the scratch repository of one crate, over the proved libraries below it, and returns
     the crate's folder. If it keeps, the checks begin from what an earlier check left."""
-    crates = listed(root)
+    crates = named(root)
     names = below(name, crates)
     os.makedirs(f"{room}/crates")
     for it in [*names, name]:

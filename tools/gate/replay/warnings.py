@@ -1,8 +1,8 @@
 """tools/run warnings [PROGRAM [CASES]]
 
 Compares `lrshow FILE START check` with the definitions, on the grammars of the stored cases. Warnings
-and errors are computed here from the textbook's definitions, in a plain way. The number of conflicts
-is that of the data of `lrshow FILE START json`.
+and errors are computed here from the textbook's definitions, in a plain way. The causes of conflicts
+are those of the data of `lrshow FILE START json`.
 PROGRAM is crates/lrshow/out/lrshow, which `rt ci` and `rt run` leave there. CASES is the folder
 crates/lrtab/cases. Others can be given. The start symbols of a grammar are each name with a
 production, the first name that has none, if there is one, and a name that the grammar does not have.
@@ -33,11 +33,11 @@ def difference(program, file, text, start):
     result, data, fault = data_of(program, {file: text}, file, start, "Lane")
     if fault:
         return f"json: {fault}"
-    count = None if data is None else len(data["conflicts"])
+    causes = None if data is None else [*checks.caused(data, text)]
     for words, check in ((["check"], checks.check), (["check", "--json"], checks.check_json)):
         result = result_of(program, {"file": file, "words": [start, *words], "method": "Lane"}, text)
         try:
-            check(result["status"], result["stdout"].decode(), text, start, file, count)
+            check(result["status"], result["stdout"].decode(), text, start, file, causes)
         except (WrongData, ValueError) as why:
             return f"{' '.join(words)}: {why}"
         if result["stderr"]:

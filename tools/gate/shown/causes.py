@@ -16,7 +16,7 @@ def loaded(path):
 
 
 # How a search of the text may end. The searches of the data end after fewer steps.
-CUT = "cut after 10000 steps"
+CUT = "cut at 10000 steps or its memory limit"
 WITNESSES = loaded(f"{ROOT}/crates/lalrpop_ambiguity_tests/check_witnesses.py")
 
 
@@ -36,10 +36,12 @@ def text_of(tree):
 
 
 def tree_of(text):
+    """The tree of a text with a mark, and how many moves of a parser are before the mark."""
     words = WITNESSES.WORD.findall(text)
+    # (the mark is read as a leaf, or is after the tree)
     tree, end = WITNESSES.read(words, 0)
-    assert end == len(words) and text_of(tree) == text, text
-    return tree
+    assert " ".join([text_of(tree), *words[end:]]) == text, text
+    return WITNESSES.marked(words)
 
 
 def rules_of(data):
@@ -75,15 +77,17 @@ def places_of(tree, items):
 
 
 def fault_of(derivations, rules, actions):
-    """Why two texts are no witness of ambiguity for actions, which are sets of items, or None. After the
-    same leaves, the first derivation takes the first action and the second one takes the other."""
+    """Why two texts are no witness of ambiguity for actions, which are sets of items, or None. At the
+    marks the first derivation takes the first action, and the second one takes the other."""
     try:
-        trees = [*map(tree_of, derivations)]
+        trees, before = zip(*map(tree_of, derivations))
         WITNESSES.check(*trees, rules)
+        WITNESSES.check_marks(*trees, before, rules)
     except (AssertionError, IndexError, TypeError, RecursionError) as why:
         return repr(why)
-    taken = map(places_of, trees, actions)
-    return None if set.intersection(*taken) else "it does not take the actions of the conflict"
+    leaves = sum(isinstance(it, str) for it in WITNESSES.moves(trees[0])[: before[0]])
+    is_taken = all(leaves in it for it in map(places_of, trees, actions))
+    return None if is_taken else "it does not take the actions of the conflict"
 
 
 def witnessed(data):
@@ -127,17 +131,33 @@ def rule_text(rules, number, dot=None):
     return " ".join([rule["nonterminal"], "=", *symbols])
 
 
+def extent_of(data, place, between):
+    """The kind of a cause, its tokens and its states, with a text after the kind."""
+    conflicts = [data["conflicts"][it] for it in data["causes"][place]["conflicts"]]
+    tokens = {it for conflict in conflicts for it in conflict["tokens"]}
+    tokens = [symbol_text({"terminal": it}) if it is not None else "Eof" for it in [*data["terminals"], None] if it in tokens]
+    states = sorted({it["state"] for it in conflicts})
+    kind = "shift/reduce" if "shift" in conflicts[0]["actions"][1] else "reduce/reduce"
+    return f"{kind}{between} on {' '.join(tokens)} in state{plural(len(states))} {' '.join(map(str, states))}"
+
+
+def line_of(data, place):
+    """A cause in one line, as a check has it."""
+    reduced, other = data["conflicts"][data["causes"][place]["conflicts"][0]]["actions"]
+    rules = {it["number"]: it for it in data["productions"]}
+    if "shift" in other:
+        others = [f"shift by {rule_text(rules, it['production'], it['dot'])}" for it in other["items"]]
+    else:
+        others = [f"reduce {rule_text(rules, other['reduce'])}"]
+    choices = ", or ".join([f"reduce {rule_text(rules, reduced['reduce'])}", *others])
+    return f"{extent_of(data, place, ' conflict')}: {choices}"
+
+
 def lines_of(data, place):
     """The lines of the text about a cause, but for those of its search: a list of those that may be in
     any order, for each part of the text."""
-    conflicts = [data["conflicts"][it] for it in data["causes"][place]["conflicts"]]
-    tokens = {it for conflict in conflicts for it in conflict["lookahead"]}
-    tokens = [symbol_text({"terminal": it}) if it is not None else "Eof" for it in [*data["terminals"], None] if it in tokens]
-    states = sorted({it["state"] for it in conflicts})
-    reduced, other = conflicts[0]["actions"]
-    kind = "shift/reduce" if "shift" in other else "reduce/reduce"
-    numbers = " ".join(map(str, states))
-    yield [f"cause {place + 1}: {kind} on {' '.join(tokens)} in state{plural(len(states))} {numbers}"]
+    reduced, other = data["conflicts"][data["causes"][place]["conflicts"][0]]["actions"]
+    yield [f"cause {place + 1}: {extent_of(data, place, '')}"]
     rules = {it["number"]: it for it in data["productions"]}
     if "shift" in other:
         yield [f"  shift by   {rule_text(rules, it['production'], it['dot'])}" for it in other["items"]]
@@ -146,21 +166,43 @@ def lines_of(data, place):
     yield [f"  reduce     {rule_text(rules, reduced['reduce'])}"]
 
 
-def expect_search(lines, cause, actions, rules, expect):
-    """The three lines from a search on agree with the data, whose search has fewer steps. Returns how many
-    of them are about it."""
+def example_text(example):
+    """An example of input, with a mark after the symbols that were read. An empty right side is not shown."""
+    shown = ["" if it is None else symbol_text(it) for it in example["symbols"]]
+    before, after = shown[: example["place"]], shown[example["place"] :]
+    return "".join(f"{it} " for it in before if it) + "(*)" + "".join(f" {it}" for it in after if it)
+
+
+def example_lines(conflict):
+    """The lines of the first example of each item of a conflict."""
+    reduced, other = conflict["actions"]
+    name = "shift " if "shift" in other else "reduce"
+    named = [(name, it) for it in other["items"]] + [("reduce", it) for it in reduced["items"]]
+    return ["  an input for each action:"] + [
+        f"    {name}  {example_text(it['examples'][0])}" for name, it in named if it["examples"]
+    ]
+
+
+def expect_search(lines, cause, conflict, actions, rules, expect):
+    """The lines from a search on agree with the data, whose search has fewer steps. Returns how many of
+    them are about it."""
     without = {it: f"  no input with two derivations was found: the search was {it}" for it in ("exhausted", CUT)}
     if lines[:1] in [[it] for it in without.values()]:
         ended = "exhausted" if lines[0] == without["exhausted"] else "cut"
         expect(cause["search"] in (ended, "cut"), f"a search that ended as {ended}, and as {cause['search']} in the data")
-        return 1
+        expected = example_lines(conflict)
+        got = lines[1 : 1 + len(expected)]
+        expect(got == expected, f"expected the examples {expected}, got {got}")
+        return 1 + len(expected)
+    lines = lines[:3]
     is_found = len(lines) == 3 and all(it.startswith("    ") for it in lines[1:])
     expect(is_found, f"no search and no derivations: {lines}")
     # (the text has the derivation of the reduction last, and the data have it first)
     derivations = [it.removeprefix("    ") for it in (lines[2], lines[1])]
     why = fault_of(derivations, rules, actions)
     expect(why is None, f"no witness: {derivations}: {why}")
-    expect(lines[0] == f"  two derivations of {tree_of(derivations[0])[0]}:", f"another root: {lines[0]}")
+    root = WITNESSES.root(tree_of(derivations[0])[0])
+    expect(lines[0] == f"  two derivations of {root}:", f"another root: {lines[0]}")
     is_same = cause["search"] == "cut" or cause["derivations"] == derivations
     expect(is_same, f"derivations {derivations} and {cause['derivations']} in the data")
     return 3
@@ -196,5 +238,6 @@ def check_text(text, data, expect):
     for place, (cause, actions) in enumerate(witnessed(data)):
         parts = [*lines_of(data, place)]
         at += expect_parts(lines[at : at + sum(map(len, parts))], parts, expect)
-        at += expect_search(lines[at : at + 3], cause, actions, rules, expect)
+        first = data["conflicts"][cause["conflicts"][0]]
+        at += expect_search(lines[at:], cause, first, actions, rules, expect)
     expect(at == len(lines), f"more lines: {lines[at:at + 1]}")

@@ -3,8 +3,9 @@ import json
 import re
 
 from gate.hostile import reading
+from gate.shown.causes import line_of
 from gate.shown.data import WrongData, expect, no_number, once
-from gate.shown.doubts import Numbered
+from gate.shown.doubts import Numbered, word_of
 from gate.shown.faults import errors_of
 from gate.shown.places import Finding
 from gate.shown.visible import VISIBLE
@@ -12,29 +13,55 @@ from gate.shown.visible import VISIBLE
 LINE = re.compile(r"(\d+):(\d+): (error|warning): (.*); ([^;]*)")
 MEMBERS = {"column": int, "end": int, "hint": str, "line": int, "message": str, "severity": str, "start": int}
 CYCLE = re.compile(r"(`\w+` derives itself):((?: `\w+`)+)")
-CONFLICTS = "`lrshow FILE START conflicts` shows their causes"
+ITSELF = re.compile(r"`(\w+)` derives itself")
+# How many steps a way from a name back to itself has at most, if it is said.
+MOST_STEPS = 20
+CONFLICTS = "see `lrshow FILE START conflicts`"
+# What is between the items of a shift.
+SHIFT = ", or shift by "
 
 
-def conflicts_of(count):
-    """The warning of so many conflicts. docs/FORMATS.md has no form for one alone. It is taken from
-    `conflict_count` of crates/lrshow_run/specs/Check.antt."""
-    return [Finding("warning", 1, 1, 0, 0, f"{count} conflict{'s' * (count > 1)}", CONFLICTS)] * (count > 0)
+def places_of(reduced, numbered):
+    """The places that a cause may have, by the number of the production that is reduced: that of the left
+    side of a production of the text. One that was made by inlining is not numbered in the text. It is
+    in a line of its name that has a marked name."""
+    if reduced["number"] < len(numbered.rules):
+        lines = [numbered.rules[reduced["number"]][0]]
+    else:
+        rules = [it for it in numbered.rules if it[1] == reduced["nonterminal"]]
+        lines = [number for number, _, right in rules if numbered.marked.intersection(right)]
+    return [numbered.text[it - 1].place(0) for it in lines]
+
+
+def caused(data, text):
+    """For each cause of the data, the warnings of which one is expected."""
+    numbered, rules = Numbered(text), {it["number"]: it for it in data["productions"]}
+    for place, cause in enumerate(data["causes"]):
+        reduced = rules[data["conflicts"][cause["conflicts"][0]]["actions"][0]["reduce"]]
+        places, message = places_of(reduced, numbered), line_of(data, place)
+        yield [Finding("warning", *it, message, CONFLICTS) for it in places]
+
+
+def in_order(row):
+    """A finding with the items of a shift in ascending order."""
+    first, *items = row.message.split(SHIFT)
+    return row._replace(message=SHIFT.join([first, *sorted(items)]))
 
 
 def rings_of(text, numbered):
-    """The errors of marked names that would have to be inlined into themselves, of which one is reported.
-    docs/FORMATS.md has no place for it. By `ring_finding` of crates/lrshow_run/specs/Check.antt it is the
-    whole first line that has the name before an `=` or after `inline`."""
+    """The errors of marked names that would have to be inlined into themselves, of which one is reported."""
     lines = [(name, numbered.text[numbered.lines[name] - 1]) for name in sorted(reading.on_rings(reading.read(text)))]
     says = "`{}` would have to be inlined into itself"
-    return [Finding("error", *line.place(), says.format(name), "leave a mark out") for name, line in lines]
+    places = [(name, line.place(word_of("cyclic", name, line.words))) for name, line in lines]
+    return [Finding("error", *place, says.format(name), "leave a mark out") for name, place in places]
 
 
-def without_cycle(row, steps):
+def without_cycle(row, numbered, steps):
     """A finding without its way from a name back to itself, which is checked."""
-    cycle = CYCLE.fullmatch(row.message)
+    cycle, alone = CYCLE.fullmatch(row.message), ITSELF.fullmatch(row.message)
     if not cycle:
-        expect(" derives itself" not in row.message, f"no way back: {row.message}")
+        is_long = alone and not numbered.has_way_back(alone[1], MOST_STEPS)
+        expect(is_long or " derives itself" not in row.message, f"no way back: {row.message}")
         return row
     names = re.findall(r"\w+", cycle[2])
     is_way = len(names) > 1 and names[0] == names[-1] and f"`{names[0]}`" == cycle[1].split()[0]
@@ -49,21 +76,26 @@ def expect_same(rows, expected):
     expect(is_same, f"expected {sorted(map(tuple, lacking))}, not {sorted(map(tuple, others))}, among {len(rows)} lines")
 
 
-def expect_warnings(rows, numbered, start, last, shown):
-    """The warnings that hold, in the order of their lines, and then one of the last ones, if there are
-    some. By docs/FORMATS.md the line of conflicts alone is out of that order. The error of a ring is out
-    of it too, by `AreRightFindings` of crates/lrshow_run/specs/Check.antt. So it is expected at the end."""
-    last, ends = [*map(shown, last)], rows[len(rows) - 1 :] if last else []
-    is_end = not last or (ends and ends[0] in last)
-    expect(is_end, f"expected one of {[tuple(it) for it in last]} at the end, not {[tuple(it) for it in ends]}")
-    rows, steps = rows[: len(rows) - len(ends)], numbered.unit_steps()
-    expect_same([without_cycle(it, steps) for it in rows], [*map(shown, numbered.warnings(start))])
+def expect_each(rows, expected, shown):
+    """Each of the rows is one of those that are expected in its place."""
+    made = {id(choices): {in_order(shown(it)) for it in choices} for choices in expected}
+    for row, choices in zip(rows, expected):
+        choices = made[id(choices)]
+        expect(in_order(row) in choices, f"expected one of {sorted(map(tuple, choices))}, not {tuple(row)}")
+    expect(len(rows) == len(expected), f"{len(rows)} lines in the place of {len(expected)}")
+
+
+def expect_warnings(rows, numbered, start, shown):
+    """The warnings that hold, in the order of their lines."""
+    steps = numbered.unit_steps()
+    expect_same([without_cycle(it, numbered, steps) for it in rows], [*map(shown, numbered.warnings(start))])
     expect([it.line for it in rows] == sorted(it.line for it in rows), "the lines are not in their order")
 
 
-def check_rows(status, rows, text, start, conflicts, shown):
-    """The findings of a check are right for a text, a start symbol and a number of conflicts. `shown`
-    makes a finding one of the form of the rows."""
+def check_rows(status, rows, text, start, causes, shown):
+    """The findings of a check are right for a text, a start symbol and the warnings of the causes of
+    conflicts. The error of a ring is first, and the causes are last. `shown` makes a finding one of the
+    form of the rows."""
     errors = [*map(shown, errors_of(text))]
     if errors:
         expect(rows == errors, f"expected the errors {[tuple(it) for it in errors]}, not {[tuple(it) for it in rows]}")
@@ -71,8 +103,12 @@ def check_rows(status, rows, text, start, conflicts, shown):
         return
     numbered = Numbered(text)
     rings = rings_of(text, numbered)
-    expect(rings or conflicts is not None, "there are no data that have the number of conflicts")
-    expect_warnings(rows, numbered, start, rings or conflicts_of(conflicts), shown)
+    expect(rings or causes is not None, "there are no data that have the causes of conflicts")
+    first, last = [rings] if rings else [], [] if rings else [*causes]
+    end = max(len(first), len(rows) - len(last))
+    expect_each(rows[: len(first)], first, shown)
+    expect_each(rows[end:], last, shown)
+    expect_warnings(rows[len(first) : end], numbered, start, shown)
     expect(status == (2 if rings else 1 if rows else 0), f"{len(rows)} lines and the status {status}")
 
 
@@ -91,14 +127,15 @@ def in_line(finding):
     return finding._replace(start=None, end=None, message=message, hint=hint)
 
 
-def check(status, output, text, start, file, conflicts):
-    """The lines of a check are right. There are so many conflicts, or None where no data are expected."""
+def check(status, output, text, start, file, causes):
+    """The lines of a check are right. For each cause of conflicts the warnings are given of which one is
+    expected, or None where no data are expected."""
     lines = output.split("\n")
     expect(lines.pop() == "", "no line end after the last line")
-    check_rows(status, [row_of(it, file) for it in lines], text, start, conflicts, in_line)
+    check_rows(status, [row_of(it, file) for it in lines], text, start, causes, in_line)
 
 
-def check_json(status, output, text, start, _file, conflicts):
+def check_json(status, output, text, start, _file, causes):
     """The array of a check is right. It does not have the name of the file."""
     try:
         rows = json.loads(output, object_pairs_hook=once, parse_constant=no_number)
@@ -108,4 +145,4 @@ def check_json(status, output, text, start, _file, conflicts):
     for it in rows:
         has_members = isinstance(it, dict) and {name: type(value) for name, value in it.items()} == MEMBERS
         expect(has_members, f"a finding with other members: {it}")
-    check_rows(status, [Finding(**it) for it in rows], text, start, conflicts, lambda it: it)
+    check_rows(status, [Finding(**it) for it in rows], text, start, causes, lambda it: it)

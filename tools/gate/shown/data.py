@@ -1,14 +1,14 @@
 """The data that `lrshow` writes, read as docs/FORMATS.md has them.
 
-Each member must be there, and each number and each name must refer to something. The tokens of an
-item are listed in what is read, also where the data have `null` for all tokens.
+Each member must be there, and each number and each name must refer to something. In what is read,
+items, reductions and conflicts have one member more: `tokens`, the list of their tokens.
 """
 import json
 
 from gate.shown import causes
 
 # The version of their form, and how many examples of an item are shown at most.
-VERSION, EXAMPLES = 2, 3
+VERSION, EXAMPLES = 3, 3
 
 
 class WrongData(Exception):
@@ -40,9 +40,18 @@ def read(text):
         raise WrongData(f"no JSON: {why}") from why
     except (AttributeError, KeyError, TypeError) as why:
         raise WrongData(f"data of another form: {why!r}") from why
-    for it in [it for state in data["states"] for it in state["items"] if it["lookahead"] is None]:
-        it["lookahead"] = [*data["terminals"], None]
+    whole = [*data["terminals"], None]
+    for it in naming(data):
+        it["tokens"] = whole if it["lookahead"] is None else data["sets"][it["lookahead"]]
     return data
+
+
+def naming(data):
+    """The parts of data that name a set: items, reductions and conflicts."""
+    for state in data["states"]:
+        yield from state["items"]
+        yield from state["reductions"]
+    yield from data["conflicts"]
 
 
 def members(it, names, what):
@@ -55,11 +64,11 @@ def is_below(number, count):
 
 
 class Check:
-    """The check of data. It keeps the places of tokens, productions by numbers, and states."""
+    """The check of data. It keeps the places of tokens, productions by numbers, sets, and states."""
 
     def __init__(self, data):
-        names = "format version start terminals productions states conflicts causes"
-        form, version, start, terminals, productions, self.states, conflicts, _ = members(data, names, "the whole")
+        names = "format version start terminals productions sets states conflicts causes"
+        form, version, start, terminals, productions, self.sets, self.states, conflicts, _ = members(data, names, "the whole")
         expect((form, version) == ("lrshow", VERSION) and isinstance(start, str), "another format, version or start")
         expect(terminals == sorted(set(terminals), key=str.encode), "terminals twice, or in another order")
         self.tokens = {it: place for place, it in enumerate([*terminals, None])}
@@ -72,12 +81,17 @@ class Check:
             self.symbols(symbols, f"production {number}")
         self.rules = {it["number"]: it for it in productions}
         expect(len(self.rules) == len(productions), "a production's number twice")
+        for place, it in enumerate(self.sets):
+            self.tokens_of_set(it, f"set {place}")
+        expect(len({*map(tuple, self.sets)}) == len(self.sets), "a set twice")
         for number, state in enumerate(self.states):
             self.state(state, number, f"state {number}")
         for place, it in enumerate(conflicts):
             self.conflict(it, f"conflict {place}")
         order = [it["state"] for it in conflicts]
         expect(order == sorted(order), "conflicts in another order than their states")
+        unnamed = {*range(len(self.sets))} - {it["lookahead"] for it in naming(data)}
+        expect(not unnamed, f"sets {sorted(unnamed)} of nothing")
 
     def symbols(self, symbols, what):
         for it in symbols:
@@ -86,9 +100,13 @@ class Check:
             is_known = isinstance(name, str) and (kind == "nonterminal" or name in self.tokens)
             expect(is_known, f"{what}: unknown symbol {name!r}")
 
-    def lookahead(self, tokens, what):
+    def tokens_of_set(self, tokens, what):
         places = [self.tokens.get(it, -1) for it in tokens]
         expect(-1 not in places and places == sorted(set(places)), f"{what}: tokens {tokens}")
+
+    def lookahead(self, number, what):
+        expect(is_below(number, len(self.sets)), f"{what}: no set {number!r}")
+        return self.sets[number]
 
     def state(self, state, number, what):
         given, items, shifts, gotos, reductions = members(state, "number items shifts gotos reductions", what)
@@ -99,9 +117,9 @@ class Check:
             expect(it["production"] in self.rules, f"{what}: no production {it['production']!r}")
             length = len(self.rules[it["production"]]["symbols"])
             expect(is_below(it.get("dot", length), length + 1), f"{what}: dot {it.get('dot')!r} of {length}")
-            tokens = it["lookahead"]
-            self.lookahead([] if tokens is None and "dot" in it else tokens, what)
-            expect("dot" not in it or tokens is None or len(tokens) < len(self.tokens), f"{what}: an item lists all tokens")
+            if "dot" not in it or it["lookahead"] is not None:
+                tokens = self.lookahead(it["lookahead"], what)
+                expect("dot" not in it or len(tokens) < len(self.tokens), f"{what}: an item names the set of all tokens")
         expect(all(it in self.tokens for it in shifts), f"{what}: shifts {list(shifts)}")
         targets = [*shifts.values(), *gotos.values()]
         expect(all(is_below(it, len(self.states)) for it in targets), f"{what}: an edge to no state")
@@ -109,9 +127,9 @@ class Check:
     def conflict(self, conflict, what):
         number, lookahead, actions = members(conflict, "state lookahead actions", what)
         expect(is_below(number, len(self.states)), f"{what}: no state {number!r}")
-        self.lookahead(lookahead, what)
-        has_actions = lookahead and len(actions) == 2 and "reduce" in actions[0]
-        expect(has_actions, f"{what}: tokens {lookahead}, {len(actions)} actions")
+        tokens = self.lookahead(lookahead, what)
+        has_actions = tokens and len(actions) == 2 and "reduce" in actions[0]
+        expect(has_actions, f"{what}: tokens {tokens}, {len(actions)} actions")
         known = {(it["production"], it["dot"]) for it in self.states[number]["items"]}
         for action in actions:
             self.action(action, what, self.states[number])

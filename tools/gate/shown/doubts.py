@@ -98,6 +98,15 @@ class Numbered:
             found |= {(a, d) for a, b in found for c, d in steps if b == c}
         return {a for a, b in found if a == b}
 
+    def has_way_back(self, name, most):
+        """Whether there is a way of at most so many steps from a name back to itself."""
+        steps, found = self.unit_steps(), {name}
+        for _ in range(most):
+            found = {b for a, b in steps if a in found}
+            if name in found:
+                return True
+        return False
+
     def first_use(self, name):
         """The line of the first production with the name on its right side, by names and then lines."""
         uses = [(left, number) for number, left, right in self.rules if name in right]
@@ -117,7 +126,8 @@ class Numbered:
         used = {it for _, _, right in self.rules for it in right if reading.is_name(it)}
         reachable, productive = self.reachable(start), self.productive()
         found = {("undefined", it, self.first_use(it)) for it in used - self.defined}
-        found |= {("unreachable", it, self.lines[it]) for it in self.defined - reachable}
+        # (if the start symbol has no production, all others are unreachable, and nothing says so)
+        found |= {("unreachable", it, self.lines[it]) for it in self.defined - reachable if start in self.defined}
         found |= {("unproductive", it, self.lines[it]) for it in self.defined - productive}
         found |= {("cyclic", it, self.lines[it]) for it in self.cyclic()}
         found |= {("nothing to inline", it, self.lines[it]) for it in self.marked - self.defined}
@@ -135,7 +145,7 @@ class Numbered:
         says, hint = KINDS[kind]
         line = self.text[number - 1]
         place = line.place(word_of(kind, name, line.words)) if kind != "no start" else (1, 1, 0, 0)
-        near = self.nearest(name) if kind == "undefined" else None
+        near = self.nearest(name) if kind in ("undefined", "no start") else None
         return Finding("warning", *place, says.format(name, start), f"perhaps `{near}` is meant" if near else hint)
 
     def warnings(self, start):

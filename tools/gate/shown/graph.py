@@ -142,7 +142,7 @@ class Drawn:
             if it["dot"] or (state["number"] == 0 and name == self.data["start"]):
                 yield rule_of(name, [*symbols[:it["dot"]], "•", *symbols[it["dot"]:]])
         for it in state["reductions"]:
-            yield f"reduce {self.listings.texts[it['production']]} on{few(it['lookahead'])}"
+            yield f"reduce {self.listings.texts[it['production']]} on{few(it['tokens'])}"
 
     def frames(self, state):
         """How many frames a state has: one more if it reduces by a production of the start symbol."""
@@ -158,7 +158,7 @@ class Drawn:
         expect(frames == self.frames(self.data["states"][number]), f"state {number} has {frames} frames")
         for (line, is_red), conflict in zip(lines[len(expected):], conflicts):
             rules = [self.listings.texts[it["reduce"]] for it in conflict["actions"] if "reduce" in it]
-            end = f", on{few(conflict['lookahead'])}".translate(PICTURES)
+            end = f", on{few(conflict['tokens'])}".translate(PICTURES)
             is_shown = line.endswith(end) and all(it.translate(PICTURES) in line for it in rules)
             expect(is_red and is_shown, f"state {number}: conflict {line!r}")
 

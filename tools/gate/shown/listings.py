@@ -18,7 +18,7 @@ def token_of(token):
 
 def tokens_of(it):
     """The tokens of an item, a reduction or a conflict."""
-    return [token_of(token) for token in it["lookahead"]]
+    return [token_of(token) for token in it["tokens"]]
 
 
 def widest(texts):

@@ -15,7 +15,7 @@ class Parser:
     def __init__(self, data):
         self.rules = {it["number"]: it for it in data["productions"]}
         self.states = data["states"]
-        self.reductions = [{t: it["production"] for it in s["reductions"] for t in it["lookahead"]} for s in self.states]
+        self.reductions = [{t: it["production"] for it in s["reductions"] for t in it["tokens"]} for s in self.states]
 
     def end_of(self, tokens, ends, place, state):
         """True if the tokens are shifted and are not to end, the number of shifted tokens if no step can be

@@ -5,11 +5,12 @@ import unittest
 from gate.hostile import grammars, reading
 from gate.shown import checks, doubts, faults, places
 from gate.shown.data import WrongData
+from gate.shown.places import Finding
 
 # Texts with a start symbol, and the warnings that hold: a kind, a name or a line, and a line.
 WARNINGS = (
     ('S = "x"', "S", set()),
-    ("", "S", {("no start", "S", 1)}),
+    ("", "S", {("no start", "S", 1)}), ('A = B\nB = "b"', "S", {("no start", "S", 1)}),
     ('S = A "x"\nA = B', "S", {("undefined", "B", 2), ("unproductive", "S", 1), ("unproductive", "A", 2)}),
     # (the first use is the first by names)
     ("S = X\nB = X\nA =", "A", {
@@ -46,19 +47,38 @@ LINES = (
     "g:3:1: warning: `Ab` derives no list of terminals; write a production without it",
     "g:3:6: warning: `Ac` has no production; perhaps `Ab` is meant",
 )
-CONFLICTS = "`lrshow FILE START conflicts` shows their causes"
+CONFLICTS = "see `lrshow FILE START conflicts`"
 RING = "inline S\nS = S\n"
 RING_LINES = (
+    "g:1:8: error: `S` would have to be inlined into itself; leave a mark out",
     "g:1:8: warning: `S` derives no list of terminals; write a production without it",
     "g:1:8: warning: `S` derives itself: `S` `S`; leave out the production that leads back",
     "g:2:5: warning: `S` is on a right side; add a start symbol that is on none",
-    "g:1:1: error: `S` would have to be inlined into itself; leave a mark out",
 )
 # A text with words of more bytes than characters, and the members of its findings after `severity`.
 WIDE, WIDE_ROWS = 'S = "é" A "é"\r\n  S =\r\nS =\r\n', (
     (1, 9, 9, 10, "`A` has no production", "write one, or mend the name"),
     (3, 1, 24, 27, "the right side is that of line 2", "leave one of the two out"),
-    (1, 1, 0, 0, "1 conflict", CONFLICTS),
+    (2, 3, 19, 20, "reduce/reduce conflict on Eof in state 2: reduce S =, or reduce S =", CONFLICTS),
+)
+WIDE_CAUSES = [[Finding("warning", *WIDE_ROWS[2])]]
+# Sums, with two causes: of one the production is in the text, and of the other it was made by inlining.
+SUMS = 'S = E\nE = E "+" E\nE = E O E\ninline O\nO = "*"\nE = "n"\n'
+SUM_DATA = {
+    "terminals": ["*", "+", "n"],
+    "productions": [
+        {"number": 1, "nonterminal": "E", "symbols": [{"nonterminal": "E"}, {"terminal": "+"}, {"nonterminal": "E"}]},
+        {"number": 5, "nonterminal": "E", "symbols": [{"nonterminal": "E"}, {"terminal": "*"}, {"nonterminal": "E"}]},
+    ],
+    "conflicts": [
+        {"state": 7, "tokens": ["+"], "actions": [{"reduce": it}, {"shift": "+", "items": [{"production": 1, "dot": 1}]}]}
+        for it in (1, 5)
+    ],
+    "causes": [{"conflicts": [0]}, {"conflicts": [1]}],
+}
+SUM_LINES = (
+    'g:2:1: warning: shift/reduce conflict on "+" in state 7: reduce E = E "+" E, or shift by E = E (*) "+" E; ' + CONFLICTS,
+    'g:3:1: warning: shift/reduce conflict on "+" in state 7: reduce E = E "*" E, or shift by E = E (*) "+" E; ' + CONFLICTS,
 )
 
 
@@ -87,16 +107,16 @@ class Checks(unittest.TestCase):
                 check(*given)
             self.assertIn(reason, str(found.exception))
 
-    def refuse_each(self, reason, status, outputs, text, count=None):
+    def refuse_each(self, reason, status, outputs, text, causes=None):
         for output in outputs:
-            self.refuse(reason, checks.check, status, output, text, "S", "g", count)
+            self.refuse(reason, checks.check, status, output, text, "S", "g", causes)
 
-    def refuse_lines(self, text, lines, count, rows):
+    def refuse_lines(self, text, lines, causes, rows):
         """Refuses lines in which a part is another, and that have another status."""
         right = lines_of(*lines)
         for reason, old, new, *status in rows:
             self.assertIn(old, right)
-            self.refuse(reason, checks.check, *(status or [1]), right.replace(old, new), text, "S", "g", count)
+            self.refuse(reason, checks.check, *(status or [1]), right.replace(old, new), text, "S", "g", causes)
 
     def test_definitions(self):
         for text, start, expected in WARNINGS:
@@ -105,10 +125,10 @@ class Checks(unittest.TestCase):
 
     def test_warnings(self):
         right = lines_of(*LINES)
-        checks.check(1, right, TEXT, "S", "g", 0)
-        checks.check(1, right.replace("g:1", "./g:1").replace("g:3", "./g:3"), TEXT, "S", "./g", 0)
-        checks.check(0, "", 'S = "x"', "S", "g", 0)
-        self.refuse_lines(TEXT, LINES, 0, (
+        checks.check(1, right, TEXT, "S", "g", [])
+        checks.check(1, right.replace("g:1", "./g:1").replace("g:3", "./g:3"), TEXT, "S", "./g", [])
+        checks.check(0, "", 'S = "x"', "S", "g", [])
+        self.refuse_lines(TEXT, LINES, [], (
             ("3 lines and the status 0", "g", "g", 0), ("`Ac` has no production", f"{LINES[2]}\n", ""),
             ("`C` has no production", "`Ac`", "`C`"), ("('warning', 2, 1", "g:1:", "g:2:"),
             ("a line in another form", "perhaps `Ab` is meant\n", "perhaps `Ab` is meant\ng:so\n"),
@@ -116,13 +136,13 @@ class Checks(unittest.TestCase):
             ("('warning', 3, 1, None, None, '`Ac` has", "3:6", "3:1"), ("derives no lists", "no list", "no lists"),
             ("among 4 lines", f"{LINES[0]}\n", 2 * f"{LINES[0]}\n"), ("error", "1: warning", "1: error"),
         ))
-        self.refuse("another file than g", checks.check, 1, f"{right}so\n", TEXT, "S", "g", 0)
-        self.refuse("not in their order", checks.check, 1, lines_of(*reversed(LINES)), TEXT, "S", "g", 0)
-        self.refuse("no line end", checks.check, 1, right[:-1], TEXT, "S", "g", 0)
+        self.refuse("another file than g", checks.check, 1, f"{right}so\n", TEXT, "S", "g", [])
+        self.refuse("not in their order", checks.check, 1, lines_of(*reversed(LINES)), TEXT, "S", "g", [])
+        self.refuse("no line end", checks.check, 1, right[:-1], TEXT, "S", "g", [])
 
     def test_hints(self):
         hint = "write a production without it"
-        self.refuse_lines(TEXT, LINES, 0, (
+        self.refuse_lines(TEXT, LINES, [], (
             (f"{hint}')], not", f"`Ab` derives no list of terminals; {hint}", "`Ab` derives no list of terminals; use it"),
             ("perhaps `S` is meant", "perhaps `Ab`", "perhaps `S`"),
             ("perhaps `T` is meant", "perhaps `Ab`", "perhaps `T`"),
@@ -137,30 +157,35 @@ class Checks(unittest.TestCase):
         self.assertEqual([(it, numbered.nearest(it)) for it, _ in rows], rows)
         self.assertEqual([doubts.distance(*it) for it in (("", "ab"), ("kitten", "sitting"), ("ab", "ba"))], [2, 3, 2])
 
-    def test_conflicts(self):
-        text, line = 'S = A\nS = B\nA = "x"\nB = "x"', f"g:1:1: warning: 1 conflict; {CONFLICTS}"
-        checks.check(1, f"{line}\n", text, "S", "g", 1)
-        checks.check(1, f"{line.replace('1 conflict', '77 conflicts')}\n", text, "S", "g", 77)
-        self.refuse("expected one of", checks.check, 0, "", text, "S", "g", 1)
-        self.refuse("there are no data", checks.check, 0, "", text, "S", "g", None)
-        others = ("1 conflict;", "2 conflicts;"), ("g:1:1", "g:9:9"), (CONFLICTS, "h"), ("warning", "error")
-        self.refuse_each("expected one of", 1, [f"{line.replace(*it)}\n" for it in others], text, 1)
-        self.refuse("not [('warning', 1, 1", checks.check, 1, f"{line}\n", 'S = "x"', "S", "g", 0)
-        # (a line on a name, and the line on conflicts before another line)
-        text = "S = conflict\nS = conflict\nconflict = \"x\"\nT ="
-        named = "g:4:1: warning: `T` is in no list that `S` derives; use it, or leave it out"
-        again = "g:2:5: warning: the right side is that of line 1; leave one of the two out"
-        checks.check(1, lines_of(again, named, line), text, "S", "g", 1)
-        self.refuse("expected one of", checks.check, 1, lines_of(line, again, named), text, "S", "g", 1)
-        text = 'S = "x"\nconflict ='
-        checks.check(1, lines_of(named.replace("`T`", "`conflict`").replace("4:", "2:")), text, "S", "g", 0)
+    def test_causes(self):
+        caused = [*checks.caused(SUM_DATA, SUMS)]
+        self.assertEqual([len(it) for it in caused], [1, 1])
+        checks.check(1, lines_of(*SUM_LINES), SUMS, "S", "g", caused)
+        self.refuse("there are no data", checks.check, 0, "", SUMS, "S", "g", None)
+        self.refuse("expected one of", checks.check, 1, lines_of(*SUM_LINES[::-1]), SUMS, "S", "g", caused)
+        for at, old, new in (
+            (0, "g:2:1", "g:3:1"), (1, "g:3:1", "g:2:1"), (0, "2:1", "2:3"), (0, "warning", "error"), (0, "shift/", "reduce/"),
+            (0, "state 7", "states 7"), (0, 'on "+"', 'on "*"'), (0, "(*) ", ""), (1, "or shift", "shift"), (1, CONFLICTS, "h"),
+        ):
+            lines = [line.replace(old, new) if at == place else line for place, line in enumerate(SUM_LINES)]
+            self.refuse("expected one of", checks.check, 1, lines_of(*lines), SUMS, "S", "g", caused)
+        for lines in (SUM_LINES[:1], SUM_LINES[1:], (), (*SUM_LINES, SUM_LINES[1])):
+            self.refuse("", checks.check, 1, lines_of(*lines), SUMS, "S", "g", caused)
+        self.refuse("not [('warning', 2, 1", checks.check, 1, lines_of(SUM_LINES[0]), SUMS, "S", "g", [])
+
+    def test_causes_in_any_order_of_items(self):
+        one, other = ("E (*) + E", "A (*) + E")
+        message = "shift/reduce conflict on + in state 7: reduce E = E"
+        row, turned = (Finding("warning", 1, 1, 0, 1, ", or shift by ".join([message, *it]), CONFLICTS)
+                       for it in ((one, other), (other, one)))
+        self.assertEqual(checks.in_order(row), checks.in_order(turned))
 
     def test_ways_back(self):
         text = 'S = A\nA = E B E\nB = A\nB = "x"\nE ='
         line = "g:{}:1: warning: `{}` derives itself: {}; leave out the production that leads back"
         lines = line.format(2, "A", "`A` `B` `A`"), line.format(3, "B", "`B` `A` `B`")
-        checks.check(1, lines_of(*lines), text, "S", "g", 0)
-        self.refuse_lines(text, lines, 0, (
+        checks.check(1, lines_of(*lines), text, "S", "g", [])
+        self.refuse_lines(text, lines, [], (
             ("no way of a name", "`A` `B` `A`;", "`A` `E` `A`;"), ("no way of a name", "`A` `B` `A`;", "`A`;"),
             ("no way of a name", "`A` `B` `A`;", "`B` `A` `B`;"), ("no way of a name", "`A` `B` `A`;", "`A` `B`;"),
             ("no way back", ": `A` `B` `A`;", ";"), ("no way back", ": `A` `B` `A`;", ": `A`, `B`, `A`;"),
@@ -197,24 +222,24 @@ class Checks(unittest.TestCase):
     def test_rings(self):
         checks.check(2, lines_of(*RING_LINES), RING, "S", "g", None)
         self.refuse_lines(RING, RING_LINES, None, (
-            ("expected one of", f"{RING_LINES[3]}\n", "", 1), ("expected one of", "g:1:1:", "g:2:1:", 2),
-            ("expected one of", "g:1:1:", "g:1:8:", 2), ("expected one of", "leave a mark out", "h", 2),
+            ("expected one of", f"{RING_LINES[0]}\n", "", 1), ("expected one of", "1:8: error", "2:8: error", 2),
+            ("expected one of", "1:8: error", "1:1: error", 2), ("expected one of", "leave a mark out", "h", 2),
             ("4 lines and the status 1", "g", "g", 1),
         ))
-        self.refuse("expected one of", checks.check, 2, lines_of(RING_LINES[3], *RING_LINES[:3]), RING, "S", "g", None)
+        self.refuse("expected one of", checks.check, 2, lines_of(*RING_LINES[1:], RING_LINES[0]), RING, "S", "g", None)
 
     def test_json(self):
         text, rows = WIDE, WIDE_ROWS
-        checks.check_json(1, json_of(*rows), text, "S", "g", 1)
-        checks.check_json(0, "[]\n", 'S = "x"', "S", "g", 0)
-        self.refuse("3 lines and the status 0", checks.check_json, 0, json_of(*rows), text, "S", "g", 1)
+        checks.check_json(1, json_of(*rows), text, "S", "g", WIDE_CAUSES)
+        checks.check_json(0, "[]\n", 'S = "x"', "S", "g", [])
+        self.refuse("3 lines and the status 0", checks.check_json, 0, json_of(*rows), text, "S", "g", WIDE_CAUSES)
         # (an empty place, and offsets that are not those of the line and the column, among others)
         for at, member, other in (
             (0, 0, 2), (0, 1, 8), (0, 2, 8), (0, 3, 11), (0, 3, 9), (0, 2, 10), (0, 4, "`A` has a production"),
-            (0, 5, "h"), (1, 2, 27), (1, 3, 24), (1, 1, 2), (2, 2, 1), (2, 3, 1), (2, 4, "2 conflicts"), (2, 0, 2),
+            (0, 5, "h"), (1, 2, 27), (1, 3, 24), (1, 1, 2), (2, 2, 17), (2, 3, 18), (2, 4, "1 conflict"), (2, 0, 1),
         ):
             wrong = [(*it[:member], other, *it[member + 1 :]) if place == at else it for place, it in enumerate(rows)]
-            self.refuse("expected", checks.check_json, 1, json_of(*wrong), text, "S", "g", 1)
+            self.refuse("expected", checks.check_json, 1, json_of(*wrong), text, "S", "g", WIDE_CAUSES)
 
     def test_texts_that_are_no_findings(self):
         right = json_of(*WIDE_ROWS)
@@ -223,4 +248,4 @@ class Checks(unittest.TestCase):
             ("other members", right.replace('"line": 1', '"line": 1.0', 1)), ("other members", "[1]"),
             ("stands twice", right.replace('"line"', '"line": 1, "line"', 1)), ("no JSON", right.replace("1", "NaN", 1)),
         ):
-            self.refuse(reason, checks.check_json, 1, wrong, WIDE, "S", "g", 1)
+            self.refuse(reason, checks.check_json, 1, wrong, WIDE, "S", "g", WIDE_CAUSES)

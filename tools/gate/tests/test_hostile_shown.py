@@ -1,4 +1,5 @@
 """Tests of the check of answers of `lrshow`, by answers that are right or spoilt."""
+import json
 import unittest
 
 from gate.hostile import shown_verdicts
@@ -11,25 +12,27 @@ from gate.tests.test_shown import (
 
 ONE, TWO, RING = 'S = "x"', 2 * 'S = "x"\n', "S = S\ninline S"
 TAG, TAGS = DATA.replace('"x"', '"</script>"'), DATA.replace('"x"', '"</script><script>"')
+UNREDUCED = DATA.replace('[{"production":0,"lookahead":0}]', "[]").replace("[[null]]", "[]")
 MANY = "1 edges: --around STATE shows one state and its neighbours, --conflicts the paths to conflicts\n"
 # What is written in the other forms.
-COUNTED = "g:1:1: warning: 1 conflict; `lrshow FILE START conflicts` shows their causes\n"
-WARNED = f"g:2:5: warning: the right side is that of line 1; leave one of the two out\n{COUNTED}"
+COLLIDES = 'reduce/reduce conflict on Eof in state 1: reduce S = "x", or reduce S = "x"'
+CAUSE = f"g:1:1: warning: {COLLIDES}; see `lrshow FILE START conflicts`\n"
+WARNED = f"g:2:5: warning: the right side is that of line 1; leave one of the two out\n{CAUSE}"
 WARNED_JSON = (
     '[{"severity":"warning","line":2,"column":5,"start":12,"end":15,"message":"the right side is that of line 1",'
-    '"hint":"leave one of the two out"},\n{"severity":"warning","line":1,"column":1,"start":0,"end":0,"message":"1 conflict",'
-    '"hint":"`lrshow FILE START conflicts` shows their causes"}]\n'
+    '"hint":"leave one of the two out"},\n{"severity":"warning","line":1,"column":1,"start":0,"end":1,"message":'
+    f'{json.dumps(COLLIDES)},"hint":"see `lrshow FILE START conflicts`"}}]\n'
 )
 FAULT = 'g:1:3: error: `"x"` is in the place of "="; a production is a name, "=" and symbols\n'
 CIRCLE = (
+    "g:1:1: error: `S` would have to be inlined into itself; leave a mark out\n"
     "g:1:1: warning: `S` derives no list of terminals; write a production without it\n"
     "g:1:1: warning: `S` derives itself: `S` `S`; leave out the production that leads back\n"
     "g:1:5: warning: `S` is on a right side; add a start symbol that is on none\n"
-    "g:1:1: error: `S` would have to be inlined into itself; leave a mark out\n"
 )
 CAUSES = (
     "1 conflict of 1 cause\ncause 1: reduce/reduce on Eof in state 1\n" + 2 * '  reduce     S = "x"\n'
-    + "  two derivations of S:\n" + 2 * '    [S: "x"]\n'
+    + "  two derivations of S:\n" + 2 * '    [S: "x" (*)]\n'
 )
 TREE, LATE = 'S\n  "x"\n', 'token 1, "y", is wrong; expected: "x"\n'
 TREE_GRAPH = (
@@ -70,8 +73,8 @@ ANSWERS = (
     *((ONE, "S json", 0, DATA.replace(old, new), "", DATA.replace(old, new), reason) for old, new, reason in (
         ('"x":1', '"x":0', "the edge by"), ('"start":"S"', '"start":"A"', "the start symbol A"),
         ('"terminals":["x"]', '"terminals":["x","y"]', "the terminals ['x', 'y']"),
-        ('[{"production":0,"lookahead":[null]}]', "[]", "the reductions are not the finished items"),
     )),
+    (ONE, "S json", 0, UNREDUCED, "", UNREDUCED, "the reductions are not the finished items"),
     *((ONE, "S json", 0, text.replace(old, new, 1), "", text.replace(old, new, 1), reason)
       for text, old, new, reason in SPOILT_DATA),
     *((ONE, "S dot --around 0" if text == ACROSS else "S dot", 0, text.replace(old, new, 1), "", DATA, reason)
@@ -97,9 +100,9 @@ ANSWERS = (
     (ONE, "S dot --conflicts", 0, NO_STATES, "no conflicts\n", DATA), (TWO, "S dot --conflicts", 1, TWICE_ACROSS, "", TWICE),
     (ONE, "S dot --around 0 --depth 2", 0, ACROSS, "", DATA), (ONE, "S dot --around 0 --depth 0", 0, LONE, "", DATA),
     (ONE, "S dot --around 2 --depth 3", 2, "", "no state 2\n", DATA),
-    (TWO, "S check", 1, WARNED.replace(COUNTED, ""), "", TWICE, "expected one of [('warning', 1, 1"),
-    (ONE, "S check", 1, COUNTED.replace("1 conflict;", "77 conflicts;"), "", DATA, "not [('warning', 1, 1"),
-    (TWO, "S check", 1, WARNED.replace("1 conflict;", "77 conflicts;"), "", TWICE, "expected one of [('warning', 1, 1"),
+    (TWO, "S check", 1, WARNED.replace(CAUSE, ""), "", TWICE, "expected one of [('warning', 1, 1"),
+    (ONE, "S check", 1, CAUSE, "", DATA, "not [('warning', 1, 1"),
+    (TWO, "S check", 1, WARNED.replace("state 1", "state 0"), "", TWICE, "expected one of [('warning', 1, 1"),
     (TWO, "S check", 1, WARNED, "", DATA, "productions"), (TWO, "S check", 0, WARNED, "", TWICE, "the status 0"),
     (TWO, "S check", 1, WARNED, "so\n", TWICE, "a text on standard error"),
     (TWO, "- S check", 1, WARNED, "", TWICE, "another file than -"),

@@ -11,7 +11,7 @@ GOTOS = {name: place for place, name in enumerate(page.NAMES)}
 # The data of each page.
 DATA = {
     "sums": {"states": [{"shifts": {"N": 4}}]},
-    "dangling": {"conflicts": [{"actions": [{"items": [{"examples": [0, 0]}]}, {"items": [{"examples": [0]}]}]}]},
+    "dangling": {"conflicts": [{"state": 5, "actions": [{"items": [{"examples": [0, 0]}]}, {"items": [{"examples": [0]}]}]}]},
     "hostile": {"states": [{"number": place, "shifts": HOSTILE, "gotos": GOTOS} for place in HOSTILE.values()]},
     "whole": {"states": [{}] * page.WHOLE},
 }
@@ -27,6 +27,8 @@ ANSWERS = {
     "document.getElementById('found').offsetHeight": (0, 20),
     "document.getElementById('found').innerText": (FOUND, dict.fromkeys(FOUND, ["so"])),
     "count.textContent": ("none found", "1 found"),
+    page.TOKENS.partition("%")[0]: (' on ")" "-" Eof', " on Eof"),
+    "document.querySelector('#c1 p')": ('in State 5, on "else"', 'in State 5, on "if"'),
     page.WITHIN: (True, False),
     "[...document.querySelectorAll('#c1 .tree')]": ([2, 2, 2], [2, 2]),
     "[...document.querySelectorAll('article')]": (0, 1),
@@ -79,7 +81,7 @@ class Trials(unittest.TestCase):
     def test_right_answers(self):
         status, lines = self.status_and_lines()
         self.assertEqual([it for it in lines if not it.startswith("as it should be: ")], [])
-        self.assertEqual((status, len(lines)), (0, 30))
+        self.assertEqual((status, len(lines)), (0, 32))
 
     def test_wrong_answers(self):
         for wrong in ANSWERS:

@@ -64,11 +64,12 @@ def data_of(count, lookahead):
     numbers = range(count)
     actions = [{"reduce": it, "items": [{"production": it, "dot": 1, "examples": [EXAMPLE]}]} for it in numbers]
     first, last = ([{"production": it, "dot": dot, "lookahead": lookahead} for it in numbers] for dot in (0, 1))
-    reductions = [{"production": it, "lookahead": [None]} for it in numbers]
-    conflicts = [{"state": 1, "lookahead": [None], "actions": it} for it in itertools.combinations(actions, 2)]
+    reductions = [{"production": it, "lookahead": 0} for it in numbers]
+    conflicts = [{"state": 1, "lookahead": 0, "actions": it} for it in itertools.combinations(actions, 2)]
     return json.dumps({
-        "format": "lrshow", "version": 2, "start": "S", "terminals": ["x"],
+        "format": "lrshow", "version": 3, "start": "S", "terminals": ["x"],
         "productions": [{"number": it, "nonterminal": "S", "symbols": [{"terminal": "x"}]} for it in numbers],
+        "sets": [[None]],
         "states": [
             {"number": 0, "items": first, "shifts": {"x": 1}, "gotos": {}, "reductions": []},
             {"number": 1, "items": last, "shifts": {}, "gotos": {}, "reductions": reductions},
@@ -93,7 +94,7 @@ def by_lrtab(old="", new=""):
 
 def by_lrshow(command, old="", new="", name="x.lanes"):
     files = {"program": LRSHOW}
-    for method, lookahead in (("lanes", None), ("disabled", [None])):
+    for method, lookahead in (("lanes", None), ("disabled", 0)):
         files[f"program.x.{method}"] = f"0\n\n{data_of(1, lookahead)}"
         files[f"program.y.{method}"] = f"1\n\n{data_of(3, lookahead)}"
         files[f"program.z.{method}"] = f"2\n{FAULT}"
@@ -143,11 +144,11 @@ class Replay(CommandTest):
 
     def test_listings(self):
         """Right data, data that refer to nothing, and data that list something else."""
-        items, reductions = '1, "lookahead": null', '[{"production": 0, "lookahead": [null]}]'
-        canonical, lane, example = data_of(1, [None]), data_of(1, None), json.dumps(EXAMPLE)
+        items, reductions = '1, "lookahead": null', '[{"production": 0, "lookahead": 0}]'
+        canonical, lane, example = data_of(1, 0), data_of(1, None), json.dumps(EXAMPLE)
         self.check(lambda *change: by_lrshow(report_of_data, *change), (
             ("right data", 0, "report and explain by the data of 6 tables: 8 agree, 0 differ"),
-            ("another version", 1, "another format", '"version": 2', '"version": 1'),
+            ("another version", 1, "another format", '"version": 3', '"version": 2'),
             ("a member more", 1, "the whole has other members", '"version"', '"more": 2, "version"'),
             ("a member twice", 1, "a member stands twice", '"version"', '"start": 1, "version"'),
             ("a number that is none", 1, "NaN is no JSON", '"number": 1', '"number": NaN'),
@@ -156,12 +157,14 @@ class Replay(CommandTest):
             ("a shift of no terminal", 1, "shifts ['x', 'y']", '"x": 1', '"x": 1, "y": 1'),
             ("an item of no production", 1, "no production 7", '0, "dot": 1', '7, "dot": 1'),
             ("a dot after the end", 1, "dot 2 of 1", '"dot": 1', '"dot": 2'),
-            ("an unknown token", 1, "tokens ['y']", items, '1, "lookahead": ["y"]'),
-            ("tokens in another order", 1, "tokens [None, 'x']", items, '1, "lookahead": [null, "x"]'),
+            ("an unknown token", 1, "tokens ['y']", '[[null]]', '[["y"]]'),
+            ("tokens in another order", 1, "tokens [None, 'x']", '[[null]]', '[[null, "x"]]'),
             ("an unknown terminal", 1, "unknown symbol 'y'", '{"terminal": "x"}', '{"terminal": "y"}'),
             ("a number of two productions", 1, "a production's number twice", '"number": 2', '"number": 0', "y.lanes"),
-            ("a token fewer", 1, """expected '        lookahead "x" Eof', got""", items, '1, "lookahead": [null]'),
-            ("a reduction fewer", 1, "stdout, line ", reductions, "[]"),
+            ("a token fewer", 1, """expected '        lookahead "x" Eof', got""", items, '1, "lookahead": 0'),
+            ("a reduction fewer", 1, "stdout, line ", reductions, "[]", "x.disabled"),
+            ("a set that nothing names", 1, "sets [0] of nothing", reductions, "[]"),
+            ("a number of no set", 1, "no set 1", items, '1, "lookahead": 1'),
             ("another kind of shift", 1, "stdout, line ", '"gotos": {}', '"gotos": {"S": 1}'),
             ("a conflict in no state", 1, "no state 2", '"state": 1', '"state": 2', "y.lanes"),
             ("a conflict in another state", 1, "no reduction by 0", '"state": 1', '"state": 0', "y.lanes"),

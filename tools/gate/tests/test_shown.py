@@ -13,14 +13,14 @@ def data_of(count):
         items = [{"production": it, "dot": number, "lookahead": None} for it in range(count)]
         return {"number": number, "items": items, "shifts": shifts, "gotos": {}, "reductions": reductions}
 
-    reductions = [{"production": it, "lookahead": [None]} for it in range(count)]
+    reductions = [{"production": it, "lookahead": 0} for it in range(count)]
     actions = [{"reduce": it, "items": [{"production": it, "dot": 1, "examples": []}]} for it in range(count)]
-    conflicts = [{"state": 1, "lookahead": [None], "actions": it} for it in itertools.combinations(actions, 2)]
-    witness = {"search": "found", "derivations": ['[S: "x"]', '[S: "x"]']}
+    conflicts = [{"state": 1, "lookahead": 0, "actions": it} for it in itertools.combinations(actions, 2)]
+    witness = {"search": "found", "derivations": 2 * ['[S: "x" (*)]']}
     it = {
-        "format": "lrshow", "version": 2, "start": "S", "terminals": ["x"],
+        "format": "lrshow", "version": 3, "start": "S", "terminals": ["x"],
         "productions": [{"number": it, "nonterminal": "S", "symbols": [{"terminal": "x"}]} for it in range(count)],
-        "states": [state(0, {"x": 1}, []), state(1, {}, reductions)],
+        "sets": [[None]], "states": [state(0, {"x": 1}, []), state(1, {}, reductions)],
         "conflicts": conflicts, "causes": [{"conflicts": [it], **witness} for it in range(len(conflicts))],
     }
     return json.dumps(it, separators=(",", ":")) + "\n"
@@ -30,11 +30,11 @@ DATA, TWICE = data_of(1), data_of(2)
 # The data of `S = A "x"`, `S = "x"`, `A =`, in one state, whose conflict has an example.
 EXAMPLE = '{"symbols":[null,{"terminal":"x"}],"place":1,"reductions":[{"start":0,"end":1,"nonterminal":"A"}]}'
 SHIFTED = (
-    '{"format":"lrshow","version":2,"start":"S","terminals":["x"],"productions":[{"number":2,"nonterminal":"A",'
+    '{"format":"lrshow","version":3,"start":"S","terminals":["x"],"productions":[{"number":2,"nonterminal":"A",'
     '"symbols":[]},{"number":0,"nonterminal":"S","symbols":[{"nonterminal":"A"},{"terminal":"x"}]},{"number":1,'
-    '"nonterminal":"S","symbols":[{"terminal":"x"}]}],"states":[{"number":0,"items":[{"production":2,"dot":0,'
-    '"lookahead":["x"]},{"production":1,"dot":0,"lookahead":[null]}],"shifts":{"x":0},"gotos":{},"reductions":'
-    '[{"production":2,"lookahead":["x"]}]}],"conflicts":[{"state":0,"lookahead":["x"],"actions":[{"reduce":2,"items":'
+    '"nonterminal":"S","symbols":[{"terminal":"x"}]}],"sets":[["x"],[null]],"states":[{"number":0,"items":'
+    '[{"production":2,"dot":0,"lookahead":0},{"production":1,"dot":0,"lookahead":1}],"shifts":{"x":0},"gotos":{},'
+    '"reductions":[{"production":2,"lookahead":0}]}],"conflicts":[{"state":0,"lookahead":0,"actions":[{"reduce":2,"items":'
     f'[{{"production":2,"dot":0,"examples":[{EXAMPLE}]}}]}},'
     '{"shift":"x","state":0,"items":[{"production":1,"dot":0,"examples":[]}]}]}],'
     '"causes":[{"conflicts":[0],"search":"exhausted","derivations":[]}]}'
@@ -57,16 +57,22 @@ SHIFTED_REPORT = (
     '\n\n\n    reduction A ->\n        lookahead "x"\n\n    "x" shift and goto 0\n\n\n    shift/reduce conflict\n'
     '        reduction A ->\n        shift     "x"    shift and goto 0\n        lookahead "x"\n}\n'
 )
+# The sets, and the first item, which has all tokens.
+WHOLE = DATA[DATA.index("[[null]]") : DATA.index("}", DATA.index("[[null]]"))]
 EXPLAINED = 'conflict 1 in state 0 on "x"\n  reduce A ->\n    (*) "x"\n  shift "x"\n'
 # A part of data, what is put in its place, and a part of the reason.
 SPOILT_DATA = (
     *((DATA, *it) for it in (
-        ('null}],"shifts":{"x"', '[null,"x"]}],"shifts":{"x"', "tokens [None, 'x']"),
-        ('null}],"shifts":{"x"', '["x",null]}],"shifts":{"x"', "state 0: an item lists all tokens"),
+        ("[[null]]", '[[null,"x"]]', "set 0: tokens [None, 'x']"), ("[[null]]", "[[null],[null]]", "a set twice"),
+        ("[[null]]", '[[null],["x"]]', "sets [1] of nothing"), ('"lookahead":0', '"lookahead":1', "state 1: no set 1"),
+        ('"lookahead":0', '"lookahead":null', "state 1: no set None"),
+        ('null}],"shifts":{"x"', '[null]}],"shifts":{"x"', "state 0: no set [None]"),
+        (WHOLE, WHOLE.replace("[[null]]", '[[null],["x",null]]').replace('":null', '":1'),
+         "state 0: an item names the set of all tokens"),
         ('{"number":0,"nonterminal":"S"', '{"number":1,"nonterminal":"S"', "no production 0"),
-        ('"version":2', '"version":2,"version":2', "a member stands twice"), ("[]}\n", "[]", "no JSON"),
-        ('"version":2', '"version":NaN', "NaN is no JSON"), ('"version":2', '"version":1', "another format, version"),
-        ('"version":2,', "", "the whole has other members than format version"),
+        ('"version":3', '"version":3,"version":3', "a member stands twice"), ("[]}\n", "[]", "no JSON"),
+        ('"version":3', '"version":NaN', "NaN is no JSON"), ('"version":3', '"version":2', "another format, version"),
+        ('"version":3,', "", "the whole has other members than format version"),
         ('"terminals":["x"]', '"terminals":["x","a"]', "terminals twice, or in another order"),
         ('{"terminal":"x"}', '{"terminal":"y"}', "production 0: unknown symbol 'y'"),
         ('"symbols":[', '"more":0,"symbols":[', "a production has other members"),
@@ -78,12 +84,13 @@ SPOILT_DATA = (
     *((TWICE, *it) for it in (
         ('{"number":1,"nonterminal"', '{"number":0,"nonterminal"', "a production's number twice"),
         ('{"state":1', '{"state":2', "conflict 0: no state 2"), ('{"reduce":0,', '{"reduce":2,', "no reduction by 2"),
-        ('{"state":1,"lookahead":[null]', '{"state":1,"lookahead":[]', "conflict 0: tokens [], 2 actions"),
+        ("[[null]]", "[[]]", "conflict 0: tokens [], 2 actions"),
         ('"dot":1,"examples"', '"dot":0,"examples"', "other items than the finished one"),
         ('"conflicts":[0]', '"conflicts":[]', "causes of the conflicts [[]]"),
         ('"conflicts":[0],', '"conflicts":[0],"more":0,', "a cause has other members"),
         ('"found"', '"lost"', "a search ended as 'lost'"), ('"found"', '"cut"', "2 derivations of a search cut"),
-        ('[S: \\"x\\"]', '[S: \\"y\\"]', "no witness"), ('[S: \\"x\\"]', '[S: \\"x\\"', "no witness"),
+        ('[S: \\"x\\" (*)]', '[S: \\"y\\" (*)]', "no witness"), ('[S: \\"x\\" (*)]', '[S: \\"x\\" (*)', "no witness"),
+        ('[S: \\"x\\" (*)]', '[S: (*) \\"x\\"]', "no witness"),
     )),
     *((SHIFTED, *it) for it in (
         ('"nonterminal":"A","symbols"', '"nonterminal":"T","symbols"', "productions in another order"),
@@ -152,11 +159,13 @@ class Readers(unittest.TestCase):
             self.assertIn(reason, str(found.exception))
 
     def test_data(self):
-        for text in (DATA, TWICE, SHIFTED):
-            # (where an item has all tokens, they are listed)
-            listed = text.replace('"lookahead":null', '"lookahead":["x",null]')
-            self.assertEqual(data.read(text.encode()), json.loads(listed))
-        self.assertEqual((DATA.count('"lookahead":null'), TWICE.count('"lookahead":null')), (2, 4))
+        for text, tokens in (
+            (DATA, [*2 * [["x", None]], [None]]), (TWICE, [*4 * [["x", None]], *3 * [[None]]]),
+            (SHIFTED, [["x"], [None], ["x"], ["x"]]),
+        ):
+            got = data.read(text.encode())
+            self.assertEqual([it.pop("tokens") for it in data.naming(got)], tokens)
+            self.assertEqual(got, json.loads(text))
         for text, old, new, reason in SPOILT_DATA:
             self.refuse(reason, data.read, text.replace(old, new, 1).encode())
 

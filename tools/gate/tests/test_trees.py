@@ -8,7 +8,7 @@ from gate.shown.data import WrongData
 
 
 def state(shifts, gotos, *reductions):
-    reductions = [{"production": it, "lookahead": tokens} for it, tokens in reductions]
+    reductions = [{"production": it, "tokens": tokens} for it, tokens in reductions]
     return {"shifts": shifts, "gotos": gotos, "reductions": reductions}
 
 

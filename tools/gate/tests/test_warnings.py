@@ -11,28 +11,29 @@ LRSHOW = """#!/bin/sh
 [ ! -e "$0.error" ] || cat "$0.error" >&2
 exit "$status"
 """
-COUNTED = "g:1:1: warning: 1 conflict; `lrshow FILE START conflicts` shows their causes"
+CAUSE = (
+    'g:1:1: warning: reduce/reduce conflict on Eof in state 1: reduce S = "x", or reduce S = "x"; '
+    "see `lrshow FILE START conflicts`"
+)
 AGAIN = "g:2:5: warning: the right side is that of line 1; leave one of the two out"
 NONE = "g:1:1: warning: `{}` has no production; name another start symbol"
-APART = "g:1:1: warning: `S` is in no list that `{}` derives; use it, or leave it out"
 FAULT = 'h:1:1: error: `S` has no "=" after it; a production is a name, "=" and symbols'
 GRAMMARS = {"g": 2 * 'S = "x"\n', "h": "S"}
 
 
 def json_of(line):
     """A line of a check as an object. Of the places in lines, those of `g` have eight bytes for a line."""
-    file, number, column, severity, rest = line.split(":", 4)
+    _, number, column, severity, rest = line.split(":", 4)
     message, hint = rest.strip().split("; ")
     start = 8 * (int(number) - 1) + int(column) - 1
-    length = 3 if column == "5" else 1 if message.startswith(("`S` is", "`S` has no \"")) else 0
+    length = 3 if column == "5" else 0 if message.endswith("has no production") else 1
     names = ("severity", "line", "column", "start", "end", "message", "hint")
     return dict(zip(names, (severity.strip(), int(number), int(column), start, start + length, message, hint)))
 
 
 def files():
     """What the script prints of both grammars."""
-    apart = NONE.format("Missing"), APART.format("Missing")
-    checks = {("g", "S"): (AGAIN, COUNTED), ("g", "Missing"): (*apart, AGAIN, COUNTED), ("h", "Missing"): (FAULT,)}
+    checks = {("g", "S"): (AGAIN, CAUSE), ("g", "Missing"): (NONE.format("Missing"), AGAIN, CAUSE), ("h", "Missing"): (FAULT,)}
     found = {"program": LRSHOW, "cases_g.jsonl": ""}
     grammars = [json.dumps({"file": file, "text": text}) for file, text in GRAMMARS.items()]
     found["grammars.jsonl"] = "".join(f"{it}\n" for it in grammars)
@@ -57,11 +58,11 @@ class Warnings(CommandTest):
         self.check(by_script, (
             ("all agree", 0, "warnings: 3 agree, 0 differ"),
             ("a line lost", 1, "g S: check: expected [('warning', 2, 5", "program.g.S.check", f"{AGAIN}\n", ""),
-            ("no line on conflicts", 1, "g S: check: expected one of", "program.g.S.check", f"{COUNTED}\n", ""),
-            ("more conflicts", 1, "g Missing: check: expected one of", "program.g.Missing.check", "1 conflict;",
-             "2 conflicts;"),
-            ("more conflicts in JSON", 1, "g S: check --json: expected one of", "program.g.S.check--json", "1 conflict",
-             "2 conflicts"),
+            ("no line on a cause", 1, "g S: check: expected one of", "program.g.S.check", f"{CAUSE}\n", ""),
+            ("another kind", 1, "g Missing: check: expected one of", "program.g.Missing.check", "reduce/reduce",
+             "shift/reduce"),
+            ("another state in JSON", 1, "g S: check --json: expected one of", "program.g.S.check--json", "state 1",
+             "state 2"),
             ("data without conflicts", 1, "g S: check: expected [], not", "program.g.S.json", f"1\n{TWICE}",
              f"0\n{DATA}"),
             ("other data", 1, "g S: json: no JSON", "program.g.S.json", "[", ""),

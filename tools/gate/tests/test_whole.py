@@ -10,7 +10,7 @@ from unittest import mock
 
 from gate import __main__ as commands
 from gate import borrows, whole
-from gate.files import below, listed, write
+from gate.files import below, listed, named, write
 
 # They print their words. One whose name is in `failing` fails, and `mutants` waits for `rt ci`.
 RUN = """#!/bin/sh
@@ -92,6 +92,13 @@ class Files(unittest.TestCase):
             crates = listed(root)
         self.assertEqual(crates, {"a": ["thiserror"], "b": ["a"], "c": ["b", "a"]})
         self.assertEqual(below("c", crates), ["a", "b"])
+
+    def test_crates_that_wait(self):
+        """A crate that is named only to be waited for is left out, but not by `named`."""
+        with tempfile.TemporaryDirectory() as root:
+            write(f"{root}/crates.txt", "# Crates.\n# waits for a: c d\na:\nb: a\nc: b a\nd: a\n")
+            self.assertEqual(listed(root), {"a": [], "b": ["a"], "c": ["b"], "d": []})
+            self.assertEqual(named(root), {"a": [], "b": ["a"], "c": ["b", "a"], "d": ["a"]})
 
 
 class Borrows(unittest.TestCase):
