@@ -3,6 +3,7 @@ mod context;
 mod examples;
 pub mod explainer;
 mod items;
+mod kept;
 mod own;
 
 ghost use Rattle.std.specs.Prelude.{IfOk};
@@ -11,6 +12,7 @@ ghost use Rattle.lalrpop_explain.specs.explained.ExplainedConflicts.{AreExplaine
 ghost use Rattle.lalrpop_explain.specs.explained.OwnErrors.{AreOwnConflicts, AreOwnStates, IsOwnError};
 
 pub use explainer::Explainer;
+pub use kept::KeptGraphs;
 use lalrpop_base::first::FirstSets;
 use lalrpop_base::lr1_core::state::{Lr1Conflict, Lr1TableConstructionError};
 use lalrpop_base::memory::OutOfMemory;
@@ -72,8 +74,9 @@ fn explained_conflicts<'error, 'grammar>(
         explainer.now.context.states.now most conflicts.now list.items) }
 {
     let mut list = Vec::new(alloc);
+    let mut kept = KeptGraphs::new(alloc);
     for conflict in conflicts {
-        list.push(explainer.explain(alloc, conflict, most)?)?;
+        list.push(explainer.explain_next(alloc, &mut kept, conflict, most)?)?;
     }
     Ok(list)
 }

@@ -5,6 +5,7 @@ pub use Rattle.lalrpop_ambiguity.specs.witnesses.Searches.{IfFound}
 pub use Rattle.lalrpop_explain.specs.explained.ExplainedConflicts.{AddsIfShifting, AreExplained, AreExplainedBy, AreExplainedShifts, IsExplained, IsExplainedAlone}
 pub use Rattle.lalrpop_explain.specs.explained.ExplainedConflicts.{IsExplainedReduction, IsExplainedShift}
 pub use Rattle.lalrpop_explain.specs.explained.FirstExamples.{AreExamplesOf, AreFirst, AreFirstMeeting, AreReduceExamples, AreShiftExamples, GoesOnWith}
+pub use Rattle.lalrpop_explain.specs.explained.KeptGraphs.{AreKept, IsKeptGraph, IsLike, IsReductionGraph}
 pub use Rattle.lalrpop_explain.specs.explained.OwnErrors.{AreOwnConflicts, AreOwnStates, IsOwnConflict, IsOwnError}
 pub use Rattle.lalrpop_inline.specs.inlining.InlineChoices.{prefixed, choices, completed, extended, followed, inlined, is_named, laid_out, mentions, part_symbols, parts}
 pub use Rattle.lalrpop_inline.specs.inlining.InlineMeetings.{AreMarkedAmong, ComesBack, ComesBackFrom, GoesPast, IsComeBackTo, IsEntered, IsInside, IsMetName, IsNewest}
@@ -37,13 +38,14 @@ pub use Rattle.lalrpop_lr1.specs.runs.ParseAnswers.{HadTables, HadTablesWhere, I
 pub use Rattle.lalrpop_parser.specs.runs.Reading.{HasPartialOutcome, PartialOutcome, Reads, Stack, Stop, StopsReading, all_read, before, cut_off, early_end, stopped}
 pub use Rattle.lalrpop_parser.specs.runs.Reading.{stuck}
 pub use Rattle.lalrpop_parser.specs.runs.Steps.{HasOutcomeFrom, IsParsedIn, cut_off_from, other_end_from, parsed_from, stuck_from}
+pub use Rattle.lalrpop_traces.specs.traces.Alike.{AreAlike, BeganIn}
 pub use Rattle.lalrpop_traces.specs.traces.ExampleTexts.{after_mark, before_mark, example_text}
 pub use Rattle.lalrpop_traces.specs.traces.Examples.{CarryRightSides, IsExampleOf, IsRightSide, ReduceAll, ReduceAround, SpellsDerivation, between, cursor_list}
 pub use Rattle.lalrpop_traces.specs.traces.Examples.{edge_cursor, edge_of, following, nonterminal_of_node, path_of, example_place, place_of, edge_prefix, prefixes, example_reductions, reduced_at, spelled}
 pub use Rattle.lalrpop_traces.specs.traces.Examples.{edge_suffix, suffixes}
 pub use Rattle.lalrpop_traces.specs.traces.Meetings.{AddsInOrder, AreMet, AreNamed, HasMet, IsInsertedPair, IsStep, WalksOn, asked, duties_left, duties_of}
 pub use Rattle.lalrpop_traces.specs.traces.Meetings.{duty_steps, item_steps, meeting_cmp, meetings, names_in, unmet, work}
-pub use Rattle.lalrpop_traces.specs.traces.Paths.{GoesBack, IsPath, are_one, comes_again, is_item, item_node, left_over, over, passed, paths, source, source_of, target}
+pub use Rattle.lalrpop_traces.specs.traces.Paths.{GoesBack, GoesOnTo, IsPath, are_one, comes_again, is_item, item_node, left_over, over, passed, paths, source, source_of, target}
 pub use Rattle.lalrpop_traces.specs.traces.Paths.{target_node}
 pub use Rattle.lalrpop_traces.specs.traces.TraceGraphs.{AddsBoth, AddsEdge, AddsNoOther, AreKnownEdges, Graph, HaveEnds, IsEndpoint, IsFrom, IsGraph, IsKept, IsKnownLabel}
 pub use Rattle.lalrpop_traces.specs.traces.TraceGraphs.{KeepPlaces, PlainEdge, SameLabels, node_count, edge_numbers_to_source, numbers_to, numbers_to_source, places_from, plain}

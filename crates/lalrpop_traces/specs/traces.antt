@@ -1,4 +1,5 @@
 -- Backtraces, their graphs and their example paths.
+pub mod Alike
 pub mod ExampleTexts
 pub mod Examples
 pub mod Meetings

@@ -1,6 +1,10 @@
 //! Backtraces: graphs of how a state came to have an item, and examples of input that lead there.
+mod alike;
+mod can_meet;
 mod context;
+mod edge_numbers;
 mod edges_of_items;
+mod ends;
 pub mod enumerator;
 pub mod example;
 pub mod filtered;
@@ -12,6 +16,7 @@ pub mod trace_graph;
 mod walk_back;
 
 ghost use Rattle.std.specs.Prelude.{◌≡◌, IfOk};
+ghost use Rattle.lalrpop_traces.specs.traces.Alike.{BeganIn};
 ghost use Rattle.lalrpop_traces.specs.traces.Meetings.{asked};
 ghost use Rattle.lalrpop_traces.specs.traces.Examples.{CarryRightSides};
 ghost use Rattle.lalrpop_traces.specs.traces.TraceGraphs.{AreKnownEdges};
@@ -19,6 +24,7 @@ ghost use Rattle.lalrpop_traces.specs.traces.TraceOrder.{IsInOrder};
 ghost use Rattle.lalrpop_traces.specs.traces.Traces.{HasOwnProductions, HasOwnTerminals, IsTraceOf, shift_traced, reduction_traced};
 
 use context::{Context, Trace, Traced};
+use edges_of_items::ItemPlaces;
 pub use enumerator::PathEnumerator;
 pub use example::{Example, ExampleSymbol, Reduction};
 pub use filtered::FilteredPathEnumerator;
@@ -29,7 +35,7 @@ use lalrpop_base::memory::OutOfMemory;
 use lalrpop_state_graph::state_graph::StateGraph;
 pub use node::TraceGraphNode;
 use std::alloc::Global;
-use std::collections::BTreeSet;
+use std::collections::{BTreeMap, BTreeSet};
 pub use trace_graph::{NodeIndex, TraceGraph, TraceGraphEdge};
 use walk_back::{Met, trace_item};
 
@@ -57,6 +63,24 @@ impl<'trace, 'grammar> Tracer<'trace, 'grammar> {
                 state_graph: StateGraph::new(alloc, states)?,
             },
         })
+    }
+
+    /// The states in which an item of a state began, ascending, each once. The error is
+    /// `OutOfMemory` if an allocation fails.
+    pub fn sources(
+        &self,
+        alloc: Global,
+        state: StateIndex,
+        item: &Lr0Item<'grammar>,
+    ) -> Result<Vec<StateIndex>, OutOfMemory>
+        ensures exactly { IfOk result (λ found. BeganIn self.now.context.states.now state item.now
+            found.items) }
+    {
+        let found = self
+            .context
+            .state_graph
+            .trace_back(alloc, state, item.prefix())?;
+        Ok(found)
     }
 
     /// The graph of how a state came to have an item that shifts. The trace goes back to items
@@ -140,6 +164,10 @@ fn graph_of<'grammar>(
 {
     let mut met = Met {
         trace_graph: TraceGraph::new(alloc),
+        places: ItemPlaces {
+            shifting: BTreeMap::new(alloc),
+            own: BTreeMap::new(alloc),
+        },
         visited_set: BTreeSet::new(alloc),
     };
     trace_item(alloc, trace, &mut met)?;

@@ -15,7 +15,7 @@ use lalrpop_base::memory::OutOfMemory;
 use lalrpop_base::repr::TerminalString;
 use lalrpop_base::repr::grammar::Grammar;
 use lalrpop_base::repr::terminals::TerminalSet;
-use lalrpop_lr1::explain::{ExplainedConflict, ExplainedItem, Explainer};
+use lalrpop_lr1::explain::{ExplainedConflict, ExplainedItem, Explainer, KeptGraphs};
 use lalrpop_lr1::trace::Example;
 use std::alloc::Global;
 
@@ -64,8 +64,9 @@ fn push_conflicts<'grammar>(
         (IsExplanation explainer.now.context.first_sets.now explainer.now.context.states.now
         conflicts.now) (string_bytes text.old) (string_bytes text.new)) }
 {
+    let mut kept = KeptGraphs::new(alloc);
     for (place, conflict) in conflicts.iter().enumerate() {
-        let explained = explainer.explain(alloc, conflict, MOST)?;
+        let explained = explainer.explain_next(alloc, &mut kept, conflict, MOST)?;
         push_conflict(text, place + 1, &explained, terminals)?;
     }
     Ok(())

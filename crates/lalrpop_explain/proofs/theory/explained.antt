@@ -2,5 +2,6 @@
 pub mod ExplainedLists
 pub mod FirstMeetings
 pub mod FirstPaths
+pub mod KeptGraphs
 pub mod OwnErrors
 pub mod TracedExamples

@@ -1,6 +1,6 @@
 -- The first examples of an item of a conflict. The order of the examples is that of the modules
 -- `lr1::trace` and `lr1::example` of the Rust crate `lalrpop` 0.23.1.
-use Rattle.std.specs.Prelude.{◌≡◌, ℕ, suc, List, [], ◌∷◌, take, IsTrue}
+use Rattle.std.specs.Prelude.{ℕ, suc, List, [], ◌∷◌, take, IsTrue}
 use Rattle.lalrpop_base.specs.Words.{Bits, has, IsFirstSet, Dotted, Rules}
 use Rattle.lalrpop_states.specs.declared.lr1_core.state.State.{State}
 use Rattle.lalrpop_states.specs.declared.lr1_core.state.StateIndex.{StateIndex}

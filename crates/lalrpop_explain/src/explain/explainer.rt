@@ -1,12 +1,14 @@
 //! The explanation of one conflict.
 ghost use Rattle.std.specs.Prelude.{◌≡◌, Contains, IfOk};
 ghost use Rattle.lalrpop_explain.specs.explained.ExplainedConflicts.{AreExplainedBy, IsExplained, IsExplainedAlone, IsExplainedReduction};
+ghost use Rattle.lalrpop_explain.specs.explained.KeptGraphs.{AreKept};
 ghost use Rattle.lalrpop_explain.specs.explained.OwnErrors.{AreOwnStates, IsOwnConflict};
 ghost use Rattle.lalrpop_lanes.specs.Words.{ReducesOwn};
 
 use super::context::Context;
 use super::examples::reduce_examples;
 use super::items::explained_shifts;
+use super::kept::KeptGraphs;
 use super::{ExplainedConflict, ExplainedItem};
 use lalrpop_base::first::FirstSets;
 use lalrpop_base::lr1_core::item::Item;
@@ -58,14 +60,37 @@ impl<'a, 'grammar> Explainer<'a, 'grammar> {
         ensures explained { IfOk result (IsExplained self.now.context.first_sets.now
             self.now.context.states.now most conflict.now) }
     {
+        let mut kept = KeptGraphs::new(alloc);
+        self.explain_next(alloc, &mut kept, conflict, most)
+    }
+
+    /// As `explain`, with the graphs of reductions that earlier calls of the same explainer made.
+    /// So conflicts of one state should come one after another.
+    pub fn explain_next<'error>(
+        &self,
+        alloc: Global,
+        kept: &mut KeptGraphs<'grammar>,
+        conflict: &'error Lr1Conflict<'grammar>,
+        most: usize,
+    ) -> Result<ExplainedConflict<'error, 'grammar>, OutOfMemory>
+        requires states { AreOwnStates self.now.context.first_sets.now self.now.context.states.now }
+        requires conflict { IsOwnConflict self.now.context.first_sets.now.productions conflict.now }
+        requires kept { AreKept self.now.context.first_sets.now self.now.context.states.now
+            kept.old }
+        ensures explained { IfOk result (IsExplained self.now.context.first_sets.now
+            self.now.context.states.now most conflict.now) }
+        ensures kept { AreKept self.now.context.first_sets.now self.now.context.states.now
+            kept.new }
+    {
         let reduction = explained_reduction(
             alloc,
             &self.context,
+            kept,
             conflict,
             conflict.production,
             most,
         )?;
-        let others = explained_action(alloc, &self.context, conflict, most)?;
+        let others = explained_action(alloc, &self.context, kept, conflict, most)?;
         Ok(ExplainedConflict {
             conflict,
             reduction,
@@ -79,21 +104,24 @@ impl<'a, 'grammar> Explainer<'a, 'grammar> {
 fn explained_reduction<'grammar>(
     alloc: Global,
     context: &Context<'_, 'grammar>,
+    kept: &mut KeptGraphs<'grammar>,
     conflict: &Lr1Conflict<'grammar>,
     production: &'grammar Production,
     most: usize,
 ) -> Result<ExplainedItem<'grammar>, OutOfMemory>
     requires states { AreOwnStates context.now.first_sets.now context.now.states.now }
     requires production { Contains context.now.first_sets.now.productions production.now }
-    ensures { IfOk result (IsExplainedReduction context.now.first_sets.now context.now.states.now
-        most conflict.now.state conflict.now.lookahead production.now) }
+    requires kept { AreKept context.now.first_sets.now context.now.states.now kept.old }
+    ensures explained { IfOk result (IsExplainedReduction context.now.first_sets.now
+        context.now.states.now most conflict.now.state conflict.now.lookahead production.now) }
+    ensures kept { AreKept context.now.first_sets.now context.now.states.now kept.new }
 {
     let item = Item {
         production,
         index: production.symbols.len(),
         lookahead: conflict.lookahead.clone(alloc)?,
     };
-    let examples = reduce_examples(alloc, context, conflict.state, &item, most)?;
+    let examples = reduce_examples(alloc, context, kept, conflict.state, &item, most)?;
     Ok(ExplainedItem {
         production,
         index: production.symbols.len(),
@@ -105,19 +133,25 @@ fn explained_reduction<'grammar>(
 fn explained_action<'grammar>(
     alloc: Global,
     context: &Context<'_, 'grammar>,
+    kept: &mut KeptGraphs<'grammar>,
     conflict: &Lr1Conflict<'grammar>,
     most: usize,
 ) -> Result<Vec<ExplainedItem<'grammar>>, OutOfMemory>
     requires states { AreOwnStates context.now.first_sets.now context.now.states.now }
     requires action { ReducesOwn context.now.first_sets.now.productions conflict.now.action }
-    ensures { IfOk result (λ list. AreExplainedBy context.now.first_sets.now context.now.states.now
-        most conflict.now.state conflict.now.lookahead conflict.now.action list.items) }
+    requires kept { AreKept context.now.first_sets.now context.now.states.now kept.old }
+    ensures explained { IfOk result (λ list. AreExplainedBy context.now.first_sets.now
+        context.now.states.now most conflict.now.state conflict.now.lookahead conflict.now.action
+        list.items) }
+    ensures kept { AreKept context.now.first_sets.now context.now.states.now kept.new }
 {
     match &conflict.action {
         Action::Shift(terminal, _) => {
             explained_shifts(alloc, context, conflict.state, terminal, most)
         }
-        Action::Reduce(production) => lone_reduction(alloc, context, conflict, *production, most),
+        Action::Reduce(production) => {
+            lone_reduction(alloc, context, kept, conflict, *production, most)
+        }
     }
 }
 
@@ -125,17 +159,20 @@ fn explained_action<'grammar>(
 fn lone_reduction<'grammar>(
     alloc: Global,
     context: &Context<'_, 'grammar>,
+    kept: &mut KeptGraphs<'grammar>,
     conflict: &Lr1Conflict<'grammar>,
     production: &'grammar Production,
     most: usize,
 ) -> Result<Vec<ExplainedItem<'grammar>>, OutOfMemory>
     requires states { AreOwnStates context.now.first_sets.now context.now.states.now }
     requires production { Contains context.now.first_sets.now.productions production.now }
-    ensures { IfOk result (λ list. IsExplainedAlone context.now.first_sets.now
+    requires kept { AreKept context.now.first_sets.now context.now.states.now kept.old }
+    ensures explained { IfOk result (λ list. IsExplainedAlone context.now.first_sets.now
         context.now.states.now
         most conflict.now.state conflict.now.lookahead production.now list.items) }
+    ensures kept { AreKept context.now.first_sets.now context.now.states.now kept.new }
 {
-    let item = explained_reduction(alloc, context, conflict, production, most)?;
+    let item = explained_reduction(alloc, context, kept, conflict, production, most)?;
     let mut list = Vec::new(alloc);
     list.push(item)?;
     Ok(list)

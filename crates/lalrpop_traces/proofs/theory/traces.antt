@@ -1,5 +1,8 @@
 -- Backtraces, their graphs and their example paths.
+pub mod Alike
+pub mod CanMeet
 pub mod Counting
+pub mod Ends
 pub mod FilteredWalks
 pub mod KnownLabels
 pub mod Meetings

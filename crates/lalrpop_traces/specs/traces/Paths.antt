@@ -1,10 +1,11 @@
 -- The example paths of a trace graph, and the paths that a walk over them has left. A path lists
 -- the numbers of its edges, the innermost first.
-use Rattle.std.specs.Prelude.{◌≡◌, ℕ, zero, suc, ◌-◌, Bool, true, false, ◌||◌, cond, List, [], ◌∷◌, ◌++◌, length, take, reverse, Option, Some, None}
+use Rattle.std.specs.Prelude.{◌≡◌, ℕ, zero, suc, ◌-◌, Bool, true, false, ◌||◌, cond, List, [], ◌∷◌, ◌++◌, length, take, reverse, Option, Some, None, Contains}
 use Rattle.std.specs.List.{flat_map}
-use Rattle.lalrpop_base.specs.Words.{Dotted, AllDiffer}
+use Rattle.lalrpop_base.specs.Words.{Dotted, AllDiffer, IsNullable}
+use Rattle.lalrpop_grammar.specs.declared.repr.Production.{Production}
 use Rattle.lalrpop_traces.specs.contracts.trace.node.TraceGraphNodePartialEq.TheImpl as node_eq
-use Rattle.lalrpop_traces.specs.traces.Examples.{edge_of, path_of}
+use Rattle.lalrpop_traces.specs.traces.Examples.{edge_of, edge_suffix, path_of}
 use Rattle.lalrpop_traces.specs.traces.TraceGraphs.{node_count, numbers_to, edge_numbers_to_source}
 use Rattle.lalrpop_traces.specs.declared.trace.node.TraceGraphNode.{TraceGraphNode}
 use Rattle.lalrpop_traces.specs.declared.trace.node.TraceGraphNode.TheVariants.{Nonterminal, Item}
@@ -70,6 +71,18 @@ module _ (graph : TraceGraph) where
   abbrev pub comes_again : ℕ → List ℕ → Bool
   comes_again k [] = false
   comes_again k (j ∷ taken) = are_one (source j) (source k) || comes_again k taken
+
+  -- after the edges that were taken, a path can go on from the first edge to the second: this one
+  -- leads to the source of the first, and none of those that were taken comes from its own source
+  pub record GoesOnTo (taken : List ℕ) (k j : ℕ) : Type 0 where
+    pub leads : Contains (edge_numbers_to_source graph k) j
+    pub new : comes_again j taken ≡ false
+
+  -- a path can go on so from the first edge to the second, and the symbols after the first one are
+  -- nullable
+  pub record OpensTo (productions : List Production) (taken : List ℕ) (k j : ℕ) : Type 0 where
+    pub on : GoesOnTo taken k j
+    pub nullable : IsNullable productions (edge_suffix (edge_of graph k))
 
   -- the paths that go on over an edge, after the edges that were taken, the newest first. They pass
   -- at most so many nonterminals more

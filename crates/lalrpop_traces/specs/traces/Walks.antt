@@ -1,7 +1,9 @@
 -- The paths that a walk over a trace graph has left, and how far the walk can still go.
-use Rattle.std.specs.Prelude.{◌≡◌, ◌⊎◌, ℕ, zero, suc, ◌+◌, ◌-◌, true, false, IsTrue, List, [], ◌∷◌, ◌++◌, length, take, reverse, cond, Contains, Option, Some, None, Ok, Err}
+use Rattle.std.specs.Prelude.{◌≡◌, ◌⊎◌, ℕ, zero, suc, ◌+◌, ◌-◌, true, false, IsTrue, List, [], ◌∷◌, ◌++◌, length, take, reverse, cond, slice_get, Contains, Option, Some, None, Ok, Err}
 use Rattle.std.specs.declared.result.Result.{Result}
-use Rattle.lalrpop_base.specs.Words.{Bits, has, IsFirstSet}
+use Rattle.lalrpop_base.specs.Words.{Bits, Rules, has, IsFirst, IsFirstSet}
+use Rattle.lalrpop_grammar.specs.declared.repr.Symbol.{Symbol}
+use Rattle.lalrpop_grammar.specs.declared.repr.TerminalString.{TerminalString}
 use Rattle.lalrpop_collections.specs.declared.memory.OutOfMemory.{OutOfMemory}
 use Rattle.lalrpop_traces.specs.traces.Examples.{path_of, following, IsExampleOf}
 use Rattle.lalrpop_traces.specs.traces.Paths.{over, left_over}
@@ -117,6 +119,17 @@ Meets walk path = (first : Bits) × IsFirstSet walk.first_sets.now (following wa
 -- no path of the list meets the lookahead
 abbrev pub NoneMeets : FilteredPathEnumerator → List (List ℕ) → Type 0
 NoneMeets walk paths = (path : List ℕ) → Contains paths path → ¬ Meets walk path
+
+-- no token of the lookahead except Eof is in FIRST of the symbols
+abbrev pub HasNoToken : Rules → Bits → List Symbol → Type 0
+HasNoToken g lookahead symbols = (bit : ℕ) (t : TerminalString) → slice_get g.terminals bit ≡ Some t → IsFirst g.productions symbols t → IsTrue (has lookahead bit) → ⊥
+
+-- the paths of the second list are left of those of the first, and the others do not meet the
+-- lookahead of a walk
+pub record LeavesOut (walk : FilteredPathEnumerator) (all rest : List (List ℕ)) : Type 0 where
+  pub dropped : List (List ℕ)
+  pub none : NoneMeets walk dropped
+  pub is : all ≡ dropped ++ rest
 
 -- both walks are over the same graph, with the same FIRST sets and lookahead
 pub record IsSameFilter (old new : FilteredPathEnumerator) : Type 0 where

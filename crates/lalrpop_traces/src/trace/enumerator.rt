@@ -1,13 +1,15 @@
 //! The paths from an item back to the first item that they meet, one by one.
-ghost use Rattle.std.specs.Prelude.{◌≡◌, ◌⊎◌, ◌+◌, ◌<◌, ◌≤◌, length, true, false, [], ◌∷◌, ◌++◌, IfSome, IsNone, IfOk, OnOk, OnErr, List, slice_get};
+ghost use Rattle.std.specs.Prelude.{◌≡◌, ◌⊎◌, ◌+◌, ◌<◌, ◌≤◌, ℕ, length, true, false, [], ◌∷◌, ◌++◌, Contains, IfSome, IsNone, IfOk, OnOk, OnErr, List, slice_get};
 ghost use Rattle.std.specs.Iterator.{at_most};
-ghost use Rattle.lalrpop_traces.specs.traces.Examples.{IsExampleOf, SpellsDerivation, CarryRightSides, path_of, following};
+ghost use Rattle.lalrpop_traces.specs.traces.Examples.{IsExampleOf, SpellsDerivation, CarryRightSides, path_of, following, suffixes};
 ghost use Rattle.lalrpop_grammar.specs.declared.repr.Production.{Production};
 ghost use Rattle.lalrpop_base.specs.Words.{IsFirstSet};
 ghost use Rattle.lalrpop_traces.specs.traces.TraceGraphs.{AreKnownEdges, node_count};
-ghost use Rattle.lalrpop_traces.specs.traces.Paths.{IsPath, comes_again, item_node, paths};
-ghost use Rattle.lalrpop_traces.specs.traces.Walks.{frames, numbers_at, load, edge_weight, bound, IsEnded, remaining, to_come, paths_over, GoesTo, GivesNext};
+ghost use Rattle.lalrpop_traces.specs.traces.Paths.{IsPath, comes_again, is_item, item_node, paths, source};
+ghost use Rattle.lalrpop_traces.specs.traces.Walks.{frames, numbers_at, load, edge_weight, bound, IsEnded, remaining, to_come, paths_over, GoesTo, GivesNext, HasNoToken};
 
+use super::can_meet::can_meet;
+use super::ends::{can_end, has_passed};
 use super::example::Example;
 use super::node::TraceGraphNode;
 use super::spelling::{example_of, first_of};
@@ -35,6 +37,8 @@ pub struct PathEnumerator<'graph, 'grammar> {
     start: TraceGraphNode<'grammar>,
     left: usize,
     stack: Vec<EnumeratorState>,
+    // how many edges were taken since the last path
+    steps: usize,
     refused: bool,
 }
 
@@ -57,6 +61,7 @@ impl<'graph, 'grammar> PathEnumerator<'graph, 'grammar> {
             start,
             left,
             stack: Vec::new(alloc),
+            steps: 0,
             refused: false,
         };
         walk.advance()?;
@@ -107,8 +112,8 @@ impl<'graph, 'grammar> PathEnumerator<'graph, 'grammar> {
         self.found_trace()
     }
 
-    // The next edge that is left. Nodes to which no edge is left are popped.
-    fn next_edge(&mut self) -> Option<usize>
+    /// The next edge that is left. Nodes to which no edge is left are popped.
+    pub(crate) fn next_edge(&mut self) -> Option<usize>
         ensures graph { self.new.graph.now ≡ self.old.graph.now }
         ensures refused { self.new.refused ≡ self.old.refused }
         ensures start { self.new.start ≡ self.old.start }
@@ -142,9 +147,9 @@ impl<'graph, 'grammar> PathEnumerator<'graph, 'grammar> {
         }
     }
 
-    // Takes an edge. The result is whether the edge comes from an item, which completes a path. An
-    // edge from a nonterminal that was passed is not taken.
-    fn take(&mut self, number: usize) -> Result<bool, OutOfMemory>
+    /// Takes an edge. The result is whether the edge comes from an item, which completes a path. An
+    /// edge from a nonterminal is not taken if that was passed, or if no path goes on over the edge.
+    pub(crate) fn take(&mut self, number: usize) -> Result<bool, OutOfMemory>
         ensures graph { self.new.graph.now ≡ self.old.graph.now }
         ensures refused { self.new.refused ≡ self.old.refused }
         ensures start { self.new.start ≡ self.old.start }
@@ -160,12 +165,21 @@ impl<'graph, 'grammar> PathEnumerator<'graph, 'grammar> {
     {
         if self.graph.comes_from_item(number) {
             self.enter(number)?;
+            self.steps = 0;
             return Ok(true);
         }
         if self.passes(number) {
             return Ok(false);
         }
+        let Ok(leads) = self.leads_on(number) else {
+            self.stop();
+            return Err(OutOfMemory);
+        };
+        if !leads {
+            return Ok(false);
+        }
         self.enter(number)?;
+        self.steps = self.steps.saturating_add(1);
         self.left = self.graph.count_from(number);
         Ok(false)
     }
@@ -182,12 +196,20 @@ impl<'graph, 'grammar> PathEnumerator<'graph, 'grammar> {
         if self.stack.len() >= self.graph.len() {
             return true;
         }
-        for state in self.stack.iter() {
-            if self.graph.come_together(state.number, number) {
-                return true;
-            }
+        has_passed(self.graph, &self.stack, number)
+    }
+
+    // Whether a path can come to an end over an edge from a nonterminal. The search costs more than
+    // a step. So it begins after as many steps without a path as there are edges.
+    fn leads_on(&self, number: usize) -> Result<bool, OutOfMemory>
+        requires nonterminal { is_item (source self.now.graph.now number) ≡ false }
+        ensures none { IfOk result (λ leads. leads ≡ false → paths_over self.now number ≡ []) }
+    {
+        if self.steps < self.graph.edges().len() {
+            return Ok(true);
         }
-        false
+        let leads = can_end(self.alloc, self.graph, &self.stack, number)?;
+        Ok(leads)
     }
 
     // Pushes an edge on the stack, with no edge left to its source. After an allocation failure the
@@ -227,6 +249,34 @@ impl<'graph, 'grammar> PathEnumerator<'graph, 'grammar> {
     {
         self.left = 0;
         self.stack.clear();
+    }
+
+    /// Whether a path that goes on over an edge can meet a lookahead after the path so far.
+    pub(crate) fn can_meet(
+        &self,
+        first_sets: &FirstSets<'grammar>,
+        lookahead: &TokenSet,
+        number: usize,
+    ) -> Result<bool, OutOfMemory>
+        requires known { AreKnownEdges first_sets.now.terminals self.now.graph.now.edges }
+        ensures none { IfOk result (λ can. can ≡ false → (rest : List ℕ) →
+            Contains (paths_over self.now number) (path_of self.now.stack.items ++ rest) →
+            HasNoToken first_sets.now lookahead.now (suffixes self.now.graph.now rest)) }
+    {
+        let can = can_meet(
+            self.alloc,
+            first_sets,
+            lookahead,
+            self.graph,
+            &self.stack,
+            number,
+        )?;
+        Ok(can)
+    }
+
+    /// How many edges the graph has.
+    pub(crate) fn edge_count(&self) -> usize {
+        self.graph.edges().len()
     }
 
     /// FIRST of the symbols from the cursor of the path's example on. The error is `OutOfMemory` if

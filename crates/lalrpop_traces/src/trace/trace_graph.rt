@@ -171,8 +171,8 @@ impl<'grammar> TraceGraph<'grammar> {
         false
     }
 
-    // Whether the edge with the number comes from the node with the labels.
-    fn is_edge(
+    /// Whether the edge with the number comes from the node with the labels.
+    pub(crate) fn is_edge(
         &self,
         number: usize,
         from: &TraceGraphNode<'grammar>,
@@ -188,7 +188,7 @@ impl<'grammar> TraceGraph<'grammar> {
             return false;
         }
         let edge = &edges[number];
-        equal(&edge.from, from) && same_labels(&edge.symbol_sets, labels)
+        same_labels(&edge.symbol_sets, labels) && equal(&edge.from, from)
     }
 
     /// Whether the item is a node.
@@ -308,11 +308,7 @@ impl<'grammar> TraceGraph<'grammar> {
     pub(crate) fn count_from(&self, edge: usize) -> usize
         ensures { result ≡ length (edge_numbers_to_source self.now edge) }
     {
-        let edges = self.edges();
-        if edge >= edges.len() {
-            return 0;
-        }
-        self.numbers_to(&edges[edge].from).len()
+        self.numbers_from(edge).len()
     }
 
     /// Whether an edge comes from an item.
@@ -382,5 +378,8 @@ impl<'grammar> TraceGraph<'grammar> {
 fn same_labels<'grammar>(a: &SymbolSets<'grammar>, b: &SymbolSets<'grammar>) -> bool
     ensures { IsTrue result ↔ SameLabels a.now b.now }
 {
+    if a.suffix != b.suffix {
+        return false;
+    }
     a == b
 }

@@ -5,7 +5,7 @@ ghost use Rattle.lalrpop_traces.specs.traces.TraceOrder.{come_to, take_up, take_
 ghost use Rattle.lalrpop_traces.specs.traces.Meetings.{asked, duties_of, duties_left, AreNamed, IsInsertedPair, HasMet, IsStep};
 
 use super::context::Trace;
-use super::edges_of_items::{add_own, add_shifting};
+use super::edges_of_items::{ItemPlaces, add_own, add_shifting};
 use super::trace_graph::TraceGraph;
 use lalrpop_base::lr1_core::item::Lr1Item;
 use lalrpop_base::lr1_core::state::StateIndex;
@@ -14,10 +14,12 @@ use lalrpop_base::repr::NonterminalString;
 use std::alloc::Global;
 use std::collections::BTreeSet;
 
-/// The graph that a trace has made so far, and the nonterminals that it has met in states.
+/// The graph that a trace has made so far, with the numbers of the edges of items, and the
+/// nonterminals that it has met in states.
 #[derive(Drop)]
 pub(crate) struct Met<'grammar> {
     pub(crate) trace_graph: TraceGraph<'grammar>,
+    pub(crate) places: ItemPlaces,
     pub(crate) visited_set: BTreeSet<(StateIndex, NonterminalString)>,
 }
 
@@ -47,7 +49,7 @@ pub(crate) fn trace_item<'grammar>(
         .context
         .state_graph
         .trace_back(alloc, trace.state, item.prefix())?;
-    add_own(alloc, &mut met.trace_graph, item)?;
+    add_own(alloc, &mut met.trace_graph, &mut met.places.own, item)?;
     let mut tasks = Vec::new(alloc);
     push_sources(sources, &production.nonterminal, &mut tasks)?;
     while let Some(task) = tasks.pop() {
@@ -164,7 +166,14 @@ fn meet_item<'grammar>(
         OnOk result (IsStep b met.old met.new (take_up (state, name.now) item.now ∷ duties_left b
         tasks.old.items) (length tasks.old.items) tasks.new.items) }
 {
-    if !add_shifting(alloc, trace, &mut met.trace_graph, name, item)? {
+    if !add_shifting(
+        alloc,
+        trace,
+        &mut met.trace_graph,
+        &mut met.places,
+        name,
+        item,
+    )? {
         return Ok(());
     }
     let production = item.production;

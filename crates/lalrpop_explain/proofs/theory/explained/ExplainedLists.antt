@@ -1,7 +1,6 @@
 -- Lists of explained items and of explained conflicts, which grow one by one.
-use Rattle.std.proofs.Common.{◌≡◌, ◌≢◌, ℕ, List, [], ◌∷◌, ◌++◌, sym, ◌∙◌, ap, subst}
+use Rattle.std.proofs.Common.{◌≡◌, ◌≢◌, ℕ, List, [], ◌∷◌, ◌++◌, sym, subst}
 use Rattle.std.specs.Prelude.{Some, slice_get}
-use Rattle.std.proofs.lemmas.List.{append-nil}
 use Rattle.lalrpop_base.specs.Words.{Bits, Dotted, Rules}
 use Rattle.lalrpop_grammar.specs.declared.repr.Symbol.TheVariants.{Terminal}
 use Rattle.lalrpop_explain.specs.Words.{AddsIfShifting, AreExplained, AreExplainedShifts, IsExplained, IsExplainedShift}

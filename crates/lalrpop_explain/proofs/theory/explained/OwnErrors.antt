@@ -1,7 +1,6 @@
 -- The tests of the conditions under which conflicts are explained.
-use Rattle.std.proofs.Common.{◌≡◌, ℕ, List}
-use Rattle.std.specs.Prelude.{Contains, Some, slice_get}
-use Rattle.lalrpop_base.specs.Words.{Bits, Dotted, EachItem, IsWellFormed, productions, rules_of}
+use Rattle.std.proofs.Common.{List}
+use Rattle.lalrpop_base.specs.Words.{Bits, EachItem, IsWellFormed, productions, rules_of}
 use Rattle.lalrpop_collections.proofs.theory.lists.Lists.{contains_place}
 use Rattle.lalrpop_grammar.proofs.theory.grammars.Grammars.{known_symbols}
 use Rattle.lalrpop_lanes.specs.Words.{HaveOwnItems}

@@ -1,30 +1,10 @@
--- Symbols derive the empty list if FIRST of each shares a token with FIRST of the empty list.
-use Rattle.std.proofs.Common.{◌≡◌, ◌↔◌, ℕ, zero, suc, ◌+◌, ◌<◌, Bool, true, List, [], ◌∷◌, length, drop, get_or, sym, ◌∙◌, ap, subst, arith, ⊎_elim, IsTrue}
-use Rattle.std.specs.Prelude.{IsFalse}
-use Rattle.std.proofs.lemmas.Bool.{cases_Bool, cases_lt}
+-- Symbols derive the empty list if each of them does.
+use Rattle.std.proofs.Common.{◌≡◌, ◌↔◌, ℕ, zero, suc, ◌+◌, ◌<◌, List, [], ◌∷◌, length, drop, get_or, sym, ◌∙◌, ap, subst, arith}
 use mathlib.Core.List.{nil≢cons}
-use Rattle.lalrpop_base.specs.Words.{Bits, has, IsFirstSet, IsNullable, Rules}
+use Rattle.lalrpop_base.specs.Words.{IsNullable}
 use Rattle.lalrpop_traces.proofs.Types.{Production, Symbol, TerminalString}
 use Rattle.lalrpop_grammar.specs.declared.repr.Symbol.TheVariants.{Terminal}
-use Rattle.lalrpop_grammar.proofs.theory.grammars.Forests.{derives_forest, forest-terminal, first-nil, nullable-nil, nullable-cons}
-use Rattle.lalrpop_collections.proofs.theory.lists.Places.{filled}
-
--- FIRST of the empty list has Eof alone
-end_only : (g : Rules) (set : Bits) → IsFirstSet g [] set → (bit : ℕ) → has set bit ≡ true → bit ≡ length g.terminals
-end_only g set first bit there =
-    let most = first.fits bit there in
-    ⊎_elim
-    (λ below. let t = filled g.terminals bit below in absurd (first-nil t.0 ((first.begins bit t.0 t.1).0 there)))
-    (λ above. omega (arith, most, above))
-    (cases_lt bit (length g.terminals))
-
--- symbols are nullable exactly if their FIRST shares a token with that of the empty list
-pub nullable_by_end : (g : Rules) (symbols : List Symbol) (first end : Bits) (r : Bool) → IsFirstSet g symbols first → IsFirstSet g [] end →
-    (IsTrue r → (bit : ℕ) × IsTrue (has first bit) × IsTrue (has end bit)) → (IsFalse r → (bit : ℕ) → IsTrue (has first bit) → IsTrue (has end bit) → ⊥) → IsTrue r ↔ IsNullable g.productions symbols
-nullable_by_end g symbols first end r is ends met apart = (
-  λ h. let w = met h in is.ends.0 (ap (λ k. has first k) (sym (end_only g end ends w.0 w.2)) ∙ w.1),
-  λ d. ⊎_elim (λ t. t) (λ f. absurd (apart f (length g.terminals) (is.ends.1 d) (ends.ends.1 nullable-nil))) (cases_Bool r),
-)
+use Rattle.lalrpop_grammar.proofs.theory.grammars.Forests.{derives_forest, forest-terminal, nullable-cons}
 
 pub terminal_not_nullable : (g : List Production) (t : TerminalString) → IsNullable g (Terminal t ∷ []) → ⊥
 terminal_not_nullable g t d = nil≢cons (forest-terminal (derives_forest d)).1

@@ -65,7 +65,7 @@ path_reverse (x ∷ xs) =
     ap (path_of) (reverse-append (x ∷ []) xs) ∙ map-append (λ (s : EnumeratorState). s.number) (reverse xs) (x ∷ []) ∙ ap (λ ks. ks ++ x.number ∷ []) (path_reverse xs) ∙ sym (reverse-append (x.number ∷ []) (path_of xs))
 
 -- the path of a stack, from its newest edges
-path_back : (stack fs : List EnumeratorState) → reverse stack ≡ fs → reverse (path_of fs) ≡ path_of stack
+pub path_back : (stack fs : List EnumeratorState) → reverse stack ≡ fs → reverse (path_of fs) ≡ path_of stack
 path_back stack fs e = ap (λ (xs : List EnumeratorState). reverse (path_of xs)) (sym e) ∙ ap reverse (path_reverse stack) ∙ reverse-reverse (path_of stack)
 
 standing : (stack : List EnumeratorState) (rest : List (List ℕ)) (s : EnumeratorState) (fs : List EnumeratorState) → reverse stack ≡ s ∷ fs → and_behind stack rest ≡ path_of stack ∷ rest

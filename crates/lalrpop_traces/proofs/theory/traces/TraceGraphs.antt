@@ -202,6 +202,10 @@ labels_same a b r is = (
       is ∙ rw (first, cursor_same a.cursor b.cursor same.cursor, last) refl,
 )
 
+-- labels with other suffixes have other symbols
+pub labels_differ : (a b : SymbolSets) → pointwise symbol_eq.ghosts.eq a.suffix.now b.suffix.now ≡ false → ¬ SameLabels a b
+labels_differ a b other same = true≢false (sym (ap (λ (xs : List Symbol). pointwise symbol_eq.ghosts.eq a.suffix.now xs) (sym same.suffix) ∙ pointwise_itself a.suffix.now) ∙ other)
+
 pub plain_same : (from to : TraceGraphNode) (a b : SymbolSets) → SameLabels a b → plain_edge from to a ≡ plain_edge from to b
 plain_same from to a b same =
     ap (λ (xs : List Symbol). let e : PlainEdge = record { from = from; to = to; prefix = xs; cursor = option_copied a.cursor; suffix = a.suffix.now } in e) same.prefix

@@ -15,12 +15,12 @@ use Rattle.lalrpop_numbers.proofs.theory.construction.Contained.{contained, Deci
 use Rattle.lalrpop_collections.proofs.theory.lists.Members.{Contains-none, contains_head, contains_tail, contains-cons}
 use Rattle.lalrpop_traces.specs.Words.{Graph, PlainEdge, plain, plain_edges, AddsBoth, AddsEdge, AddsInTurn, all_added, left_out, put_behind, ends_of, stop_edge}
 use Rattle.lalrpop_traces.specs.Words.{onward_edges, Duty, come_to, take_up, come_to_each, take_up_each, items_at, AreSources, Walks, ends, known, meets, passes}
-use Rattle.lalrpop_traces.specs.Words.{IsInOrder, Backtrace, Meeting, GoesOn, own_edge, meeting_cmp, IsInsertedPair, HasMet, AddsInOrder, AreMet, WalksOn}
+use Rattle.lalrpop_traces.specs.Words.{IsGraph, IsInOrder, Backtrace, Meeting, GoesOn, own_edge, meeting_cmp, IsInsertedPair, HasMet, AddsInOrder, AreMet, WalksOn}
 use Rattle.lalrpop_traces.specs.traces.TraceOrder.{stops, goes_on}
 use Rattle.lalrpop_traces.specs.declared.trace.walk_back.Met.{Met}
 use Rattle.lalrpop_traces.specs.declared.trace.node.TraceGraphNode.{TraceGraphNode}
 use Rattle.lalrpop_traces.specs.declared.trace.trace_graph.TraceGraphEdge.{TraceGraphEdge}
-use Rattle.lalrpop_traces.proofs.theory.traces.TraceGraphs.{plain_push, decided_node}
+use Rattle.lalrpop_traces.proofs.theory.traces.TraceGraphs.{plain_push, plain_place, decided_node}
 
 -- ---- values added in turn
 
@@ -53,10 +53,18 @@ order_one old new e p edge both is =
       nodes = turn_append (e.to ∷ []) new.nodes (turn_once decided_node old.nodes both.0 e.from both.1) (turn_once decided_node both.0 new.nodes e.to both.2);
     })
 
+-- an edge that is there is added again
+pub order_again : (graph : Graph) → IsGraph graph → (p : PlainEdge) → Contains (plain_edges graph) p → AddsInOrder graph graph (p ∷ [])
+order_again graph is p there =
+    let at = plain_place graph.edges p there in
+    let both = is.ends at.0 at.1 at.2 in
+    let P : TraceGraphNode → Type 0 = Contains graph.nodes in
+    record { edges = left_out there all_added; nodes = left_out (subst P (ap (λ (q : PlainEdge). q.from) at.3) both.0) (left_out (subst P (ap (λ (q : PlainEdge). q.to) at.3) both.1) all_added) }
+
 pub order_as : (old new : Graph) (xs ys : List PlainEdge) → AddsInOrder old new xs → xs ≡ ys → AddsInOrder old new ys
 order_as old new xs ys added same = subst (AddsInOrder old new) same added
 
-order_none : (graph : Graph) → AddsInOrder graph graph []
+pub order_none : (graph : Graph) → AddsInOrder graph graph []
 order_none graph = record { edges = all_added; nodes = all_added }
 
 pub order_append : (old middle new : Graph) (xs ys : List PlainEdge) → AddsInOrder old middle xs → AddsInOrder middle new ys → AddsInOrder old new (xs ++ ys)

@@ -1,8 +1,9 @@
 -- Walks over a trace graph end.
-use Rattle.std.proofs.Common.{◌≡◌, ℕ, zero, suc, ◌+◌, ◌-◌, ◌<◌, ◌≤◌, List, [], ◌∷◌, ◌++◌, length, take, reverse, refl, sym, ◌∙◌, ap, arith, cond, true}
+use Rattle.std.proofs.Common.{◌≡◌, ℕ, zero, suc, ◌+◌, ◌-◌, ◌<◌, ◌≤◌, List, [], ◌∷◌, ◌++◌, length, take, reverse, refl, sym, ◌∙◌, ap, arith, cond, Bool, true, false, ⊎_elim}
 use Rattle.std.specs.Prelude.{slice_get, Some, None, unwrap_or}
 use Rattle.std.proofs.lemmas.List.{take_all, reverse-append, reverse-reverse, length-append, length-reverse}
 use Rattle.lalrpop_collections.proofs.theory.lists.Places.{slice_get-push_at, same_some}
+use Rattle.std.proofs.lemmas.Bool.{cases_Bool}
 use Rattle.std.proofs.lemmas.Option.{slice_get_within}
 use Rattle.lalrpop_traces.proofs.theory.traces.PathsLeft.{take_none}
 use Rattle.lalrpop_traces.specs.Words.{node_count, edge_numbers_to_source, total, weight, numbers_at, load_of, load, frames, edge_weight, bound, bound_of, IsEnded}
@@ -97,3 +98,19 @@ standing_bound walk standing =
 pub refused_less : (stack : List EnumeratorState) (n most : ℕ) → stack ≡ [] → 2 ≤ most → cond true 1 0 + bound_of stack n < most
 refused_less [] n most e l = omega (arith, l)
 refused_less (s ∷ stack) n most e l = absurd (omega (arith, ap length e))
+
+bound_at_most : (stack : List EnumeratorState) (n : ℕ) → bound_of stack n ≤ suc n
+bound_at_most [] n = omega arith
+bound_at_most (s ∷ stack) n = omega arith
+
+bound_ended : (stack : List EnumeratorState) (n : ℕ) → stack ≡ [] → bound_of stack n ≡ 0
+bound_ended [] n e = refl
+bound_ended (s ∷ stack) n e = absurd (omega (arith, ap length e))
+
+-- a walk that went on from its current path has fewer results to give
+pub falls_bound : (old new : PathEnumerator) (found : Bool) → (IsEnded old → ⊥) → old.refused ≡ false → new.refused ≡ false → (found ≡ false → IsEnded new) → (found ≡ true → load new < load old) → bound new < bound old
+falls_bound old new found stands told now ended falls =
+    let was : bound old ≡ 0 + bound_of old.stack.items (load old) = ap (λ b. cond b 1 0 + bound_of old.stack.items (load old)) told in
+    let stood = standing_at old.stack.items (load old) stands in
+    let is : bound new ≡ 0 + bound_of new.stack.items (load new) = ap (λ b. cond b 1 0 + bound_of new.stack.items (load new)) now in
+    ⊎_elim (λ yes. omega (arith, was, stood, is, bound_at_most new.stack.items (load new), falls yes)) (λ no. omega (arith, was, stood, is, bound_ended new.stack.items (load new) (ended no))) (cases_Bool found)

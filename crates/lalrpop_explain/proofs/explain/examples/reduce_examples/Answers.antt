@@ -1,20 +1,33 @@
-use Rattle.std.proofs.Common.{◌∙◌, ap}
-use Rattle.lalrpop_base.specs.Words.{Bits, Dotted}
-use Rattle.lalrpop_traces.specs.Words.{dotted}
-use Rattle.lalrpop_explain.proofs.theory.explained.TracedExamples.{traced_known, traced_examples}
+use Rattle.std.proofs.lemmas.Result.{IfOk-weaker}
 use Rattle.lalrpop_explain.proofs.explain.examples.reduce_examples.Goals as goal
 
-pub lr1_examples-requires : goal.lr1_examples-requires
-lr1_examples-requires c =
+pub meeting_examples-requires-clause-known : goal.meeting_examples-requires-clause-known
+meeting_examples-requires-clause-known c =
     let context = c.args.context.now in
-    record {
-      known = traced_known context.first_sets.now context.tracer.context.first_sets.now context.states.now context.tracer.context.states.now context.traced_rules context.traced_states c.args.state c.lr0-finished.result c.args.item.now
-          (c.lr0-finished.ensures ∙ ap (λ (i : Dotted Bits). dotted i.production i.index) c.item.view_is) c.requires.states c.requires.item c.in_ok-graph.graph.edges c.in_ok-graph.ensures.known;
-    }
+    (c.in-Some.ensures.found context.first_sets.now context.states.now c.requires.kept).known
 
-pub returns : goal.returns
-returns c =
+pub meeting_examples-requires-clause-paths : goal.meeting_examples-requires-clause-paths
+meeting_examples-requires-clause-paths c =
     let context = c.args.context.now in
-    let walk = c.in_ok-walk in
-    traced_examples context.first_sets.now context.tracer.context.first_sets.now context.states.now context.tracer.context.states.now context.traced_rules context.traced_states c.args.state c.lr0-finished.result c.args.item.now
-    (c.lr0-finished.ensures ∙ ap (λ (i : Dotted Bits). dotted i.production i.index) c.item.view_is) c.args.most c.in_ok-graph.graph walk.walk c.in_ok-examples.examples.items c.in_ok-graph.ensures.traced c.in_ok-graph.ensures.ordered walk.ensures.graph walk.ensures.first_sets walk.ensures.lookahead walk.ensures.paths c.in_ok-examples.ensures
+    c.in-Some.ensures.paths context.first_sets.now context.states.now c.requires.kept
+
+pub returns-in-Some-clause-examples : goal.returns-in-Some-clause-examples
+returns-in-Some-clause-examples c =
+    let context = c.args.context.now in
+    IfOk-weaker c.meeting_examples.result _ _ (λ examples are. are c.args.state (c.in-Some.ensures.found context.first_sets.now context.states.now c.requires.kept)) c.meeting_examples.ensures
+
+pub meeting_examples-requires-2-clause-known : goal.meeting_examples-requires-2-clause-known
+meeting_examples-requires-2-clause-known c = c.in_ok-one.ensures.graph.known
+
+pub returns-clause-examples : goal.returns-clause-examples
+returns-clause-examples c = c.in_ok-examples.ensures c.args.state c.in_ok-one.ensures.graph
+
+pub returns-clause-kept : goal.returns-clause-kept
+returns-clause-kept c =
+    let context = c.args.context.now in
+    c.keep.ensures.kept context.first_sets.now context.states.now c.requires.kept c.in_ok-one.ensures.one
+
+pub returns-in_err-keep-clause-kept : goal.returns-in_err-keep-clause-kept
+returns-in_err-keep-clause-kept c =
+    let context = c.args.context.now in
+    c.keep.ensures.kept context.first_sets.now context.states.now c.requires.kept c.in_ok-one.ensures.one

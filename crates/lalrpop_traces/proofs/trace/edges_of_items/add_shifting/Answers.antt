@@ -7,11 +7,11 @@ use Rattle.lalrpop_traces.proofs.theory.traces.TraceOrder.{order_as, order_appen
 use Rattle.lalrpop_traces.proofs.theory.traces.Traces.{dot_same}
 use Rattle.lalrpop_traces.proofs.trace.edges_of_items.add_shifting.Goals as goal
 
-pub returns-then-not-branch-clause-onward : goal.returns-then-not-branch-clause-onward
-returns-then-not-branch-clause-onward c = λ h. absurd (true≢false (sym h))
+pub returns-then-not-goes_on-clause-onward : goal.returns-then-not-goes_on-clause-onward
+returns-then-not-goes_on-clause-onward c = λ h. absurd (true≢false (sym h))
 
-pub returns-then-not-branch-clause-stopped : goal.returns-then-not-branch-clause-stopped
-returns-then-not-branch-clause-stopped c = λ h.
+pub returns-then-not-goes_on-clause-stopped : goal.returns-then-not-goes_on-clause-stopped
+returns-then-not-goes_on-clause-stopped c = λ h.
     let item = c.args.item.now in
     let to = Nonterminal c.in_ok-clone.field-0 in
     order_as c.args.graph.now c.add_dotted.new.graph (dot_edge c.node_of.result to item.production item.index ∷ []) (stop_edge c.args.name.now item ∷ []) c.in_ok-add_dotted.ensures.in_order

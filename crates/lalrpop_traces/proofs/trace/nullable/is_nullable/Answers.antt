@@ -1,4 +1,4 @@
-use Rattle.std.proofs.Common.{List, refl, sym, ◌∙◌, subst}
+use Rattle.std.proofs.Common.{List, refl, sym, subst}
 use mathlib.Core.Bool.{true≢false}
 use Rattle.std.proofs.lemmas.List.{drop_all}
 use Rattle.lalrpop_base.specs.Words.{IsNullable}
@@ -9,13 +9,13 @@ use Rattle.lalrpop_traces.proofs.trace.nullable.is_nullable.Goals as goal
 
 pub loop-symbol-preserved : goal.loop-symbol-preserved
 loop-symbol-preserved c =
-    null_on c.args.first_sets.now.productions c.args.symbols.now c.loop-symbol.symbol-index c.symbol-item.result c.loop-symbol-test.true c.symbol-item.is c.loop-symbol.invariant (c.in_ok-is_nullable_symbol.ensures.0 c.if-not-branch.false)
+    null_on c.args.first_sets.now.productions c.args.symbols.now c.loop-symbol.symbol-index c.symbol-item.result c.loop-symbol-test.true c.symbol-item.is c.loop-symbol.invariant (c.if-not-is_nullable_symbol.ensures.0 refl)
 
-pub returns-then-not-branch : goal.returns-then-not-branch
-returns-then-not-branch c = (
+pub returns-then-not-is_nullable_symbol : goal.returns-then-not-is_nullable_symbol
+returns-then-not-is_nullable_symbol c = (
   λ h. absurd (true≢false (sym h)),
   λ d. absurd (null_stops c.args.first_sets.now.productions c.args.symbols.now c.loop-symbol.symbol-index c.symbol-item.result c.loop-symbol-test.true c.symbol-item.is c.loop-symbol.invariant
-      (λ n. true≢false (sym (c.in_ok-is_nullable_symbol.ensures.1 n) ∙ c.if-not-branch.true)) d),
+      (λ n. true≢false (sym (c.if-not-is_nullable_symbol.ensures.1 n))) d),
 )
 
 pub returns : goal.returns

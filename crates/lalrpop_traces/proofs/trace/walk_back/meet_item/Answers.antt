@@ -12,7 +12,7 @@ use Rattle.lalrpop_traces.proofs.trace.walk_back.meet_item.Goals as goal
 
 pub returns-then-not-branch : goal.returns-then-not-branch
 returns-then-not-branch c =
-    let met : Met = record { trace_graph = c.add_shifting.new.graph; visited_set = c.args.met.now.visited_set } in
+    let met : Met = record { trace_graph = c.add_shifting.new.graph; places = c.add_shifting.new.places; visited_set = c.args.met.now.visited_set } in
     step_stop (asked c.args.trace.now) c.args.tasks.now.items (c.args.state, c.args.name.now) c.args.item.now c.requires.named c.args.met.now met refl c.requires.takes
     (λ on. true≢false (sym (c.in_ok-add_shifting.ensures.on.1 on) ∙ c.if-not-branch.true)) (c.in_ok-add_shifting.ensures.stopped c.if-not-branch.true)
 
@@ -21,7 +21,7 @@ returns c =
     let b = asked c.args.trace.now in
     let item = c.args.item.now in
     let m : Meeting = (c.args.state, c.args.name.now) in
-    let met : Met = record { trace_graph = c.add_shifting.new.graph; visited_set = c.args.met.now.visited_set } in
+    let met : Met = record { trace_graph = c.add_shifting.new.graph; places = c.add_shifting.new.places; visited_set = c.args.met.now.visited_set } in
     let p : c.item.inside.production.now ≡ item.production = ap (λ (i : Dotted Bits). i.production) c.item.view_is in
     let found = c.in_ok-sources.sources.items in
     let P : Production → Type 0 = λ q. duties_left b c.push_sources.new.tasks.items ≡ come_to_each q found ++ duties_left b c.args.tasks.now.items in

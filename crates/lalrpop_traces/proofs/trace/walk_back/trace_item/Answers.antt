@@ -21,7 +21,7 @@ loop-task-init c =
     let P : Production → Type 0 = λ q. duties_left b c.push_sources.new.tasks.items ≡ come_to_each q found ++ duties_left b c.new-tasks.result.items in
     let all : duties_left b c.push_sources.new.tasks.items ≡ come_to_each b.item.production found ++ [] = subst P p (c.in_ok-push_sources.ensures.duties b) ∙ ap (λ (ts : List Task). come_to_each b.item.production found ++ duties_left b ts) c.new-tasks.ensures.items in
     record {
-      walks = walks_none b (duties_left b c.push_sources.new.tasks.items) (record { trace_graph = c.add_own.new.graph; visited_set = c.args.met.now.visited_set });
+      walks = walks_none b (duties_left b c.push_sources.new.tasks.items) (record { trace_graph = c.add_own.new.graph; places = record { shifting = c.args.met.now.places.shifting; own = c.add_own.new.places }; visited_set = c.args.met.now.visited_set });
       named = subst (AreNamed b) (sym all) (named_sources b b.item.production found [] (named_first b) (λ q none. absurd (Contains-none (come_to q) none)));
     }
 
@@ -43,7 +43,7 @@ returns c =
     let b = asked c.args.trace.now in
     let item = b.item in
     let found = c.in_ok-sources.sources.items in
-    let first : Met = record { trace_graph = c.add_own.new.graph; visited_set = c.args.met.now.visited_set } in
+    let first : Met = record { trace_graph = c.add_own.new.graph; places = record { shifting = c.args.met.now.places.shifting; own = c.add_own.new.places }; visited_set = c.args.met.now.visited_set } in
     let p : c.item.inside.production.now ≡ item.production = ap (λ (i : Dotted Nil). i.production) c.item.view_is in
     let P : Production → Type 0 = λ q. duties_left b c.push_sources.new.tasks.items ≡ come_to_each q found ++ duties_left b c.new-tasks.result.items in
     let all : duties_left b c.push_sources.new.tasks.items ≡ come_to_each item.production found = subst P p (c.in_ok-push_sources.ensures.duties b) ∙ ap (λ (ts : List Task). come_to_each item.production found ++ duties_left b ts) c.new-tasks.ensures.items ∙ append-nil (come_to_each item.production found) in

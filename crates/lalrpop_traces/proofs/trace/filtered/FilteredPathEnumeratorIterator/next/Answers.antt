@@ -9,12 +9,12 @@ returns-in-Ok-true-clause-steps c =
 
 pub loop-self-preserved : goal.loop-self-preserved
 loop-self-preserved c = record {
-  graph = c.skip_path.ensures.graph ∙ c.loop-self.invariant.graph;
-  sets = c.loop-self.invariant.sets;
-  less = omega (arith, c.skip_path.ensures.falls, c.loop-self.invariant.less);
+  graph = c.pass_over.ensures.same.graph ∙ c.loop-self.invariant.graph;
+  sets = c.pass_over.ensures.same.first_sets ∙ c.loop-self.invariant.sets;
+  less = omega (arith, c.in-Ok.ensures.falls, c.loop-self.invariant.less);
   skipped =
-      skipped_more c.args.self.now c.loop-self.self _ c.loop-self.invariant.skipped (record { graph = c.skip_path.ensures.graph; first_sets = refl; lookahead = refl })
-      (c.can_skip.ensures.ready c.loop-self-test.true) (c.can_skip.ensures.standing c.loop-self-test.true) (c.in-Ok-false.ensures.no c.in-Ok-false.field-0-test) c.skip_path.ensures.others;
+      skipped_more c.args.self.now c.loop-self.self c.pass_over.new.self c.loop-self.invariant.skipped c.pass_over.ensures.same
+      (c.can_skip.ensures.ready c.loop-self-test.true) (c.can_skip.ensures.standing c.loop-self-test.true) (c.in-Ok-false.ensures.no c.in-Ok-false.field-0-test) c.in-Ok.ensures.left;
 }
 
 pub returns-clause-steps : goal.returns-clause-steps
