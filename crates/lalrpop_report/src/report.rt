@@ -2,6 +2,7 @@
 mod conflicts;
 pub mod error;
 mod lines;
+mod lookahead_lines;
 pub mod printer;
 pub mod sink;
 mod states;

@@ -1,4 +1,5 @@
 -- The text of a report.
+pub mod KeptLines
 pub mod ReportNumbers
 pub mod ReportPadding
 pub mod ReportPlaces

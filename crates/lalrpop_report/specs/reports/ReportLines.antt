@@ -1,5 +1,5 @@
 -- The lines of a report, as texts: lists of bytes.
-use Rattle.std.specs.Prelude.{ℕ, ◌-◌, List, [], ◌∷◌, ◌++◌, length, map, max, codes, replicate}
+use Rattle.std.specs.Prelude.{◌≡◌, ℕ, ◌-◌, List, [], ◌∷◌, ◌++◌, length, map, max, codes, replicate, slice_get, String, string_bytes, Some}
 use Rattle.std.specs.Fmt.{char_count, decimal}
 use Rattle.std.specs.List.{flat_map}
 use Rattle.std.specs.Borrow.{Bor}
@@ -50,6 +50,10 @@ module _ {L : Type 0} (meaning : L → Bits) (terminals : List TerminalString) w
   -- the line of a lookahead
   abbrev pub lookahead_line : L → List ℕ
   lookahead_line lookahead = tokens_line (tokens_in terminals (meaning lookahead))
+
+  -- each entry has a lookahead and its line
+  abbrev pub AreLines : {A : Type 0} → List (L × String A) → Type 0
+  AreLines {A} entries = (n : ℕ) (e : L × String A) → slice_get entries n ≡ Some e → string_bytes e.1 ≡ lookahead_line e.0
 
   -- an empty line and the lines of an item: its nonterminal padded to a width, the symbols before
   -- its dot, the dot, the symbols after it, and its lookahead

@@ -3,11 +3,11 @@ ghost use Rattle.std.specs.Prelude.{◌≡◌, ◌++◌, OnOk, string_bytes, sli
 ghost use Rattle.std.specs.List.{flat_map};
 ghost use Rattle.lalrpop_report.specs.reports.ReportStates.{shift_reduce_lines, reduce_reduce_lines, actions_lines, conflict_block, block_at};
 
-use super::lines::{push_filled, push_lookahead, push_production};
+use super::lines::{push_filled, push_production};
+use super::lookahead_lines::LookaheadLines;
 use super::printer::LookaheadPrinter;
 use lalrpop_base::lr1_core::state::{Action, Conflict, StateIndex};
 use lalrpop_base::memory::OutOfMemory;
-use lalrpop_base::repr::terminals::TerminalSet;
 use lalrpop_base::repr::{Production, TerminalString};
 use std::alloc::Global;
 
@@ -77,14 +77,14 @@ fn push_conflict<L: LookaheadPrinter<String>>(
     alloc: Global,
     text: &mut String,
     conflict: &Conflict<'_, L>,
-    terminals: &TerminalSet,
+    lines: &LookaheadLines<'_, L>,
 ) -> Result<(), OutOfMemory>
     ensures { OnOk result (string_bytes text.new ≡ string_bytes text.old ++ conflict_block L.meaning
-        terminals.now conflict.now) }
+        lines.now conflict.now) }
 {
     text.push_str("\n")?;
     push_actions(alloc, text, conflict.production, &conflict.action)?;
-    push_lookahead(text, &conflict.lookahead, terminals)?;
+    lines.push_line(text, &conflict.lookahead)?;
     Ok(())
 }
 
@@ -94,13 +94,13 @@ fn push_conflict_at<L: LookaheadPrinter<String>>(
     text: &mut String,
     conflicts: &[Conflict<'_, L>],
     place: usize,
-    terminals: &TerminalSet,
+    lines: &LookaheadLines<'_, L>,
 ) -> Result<(), OutOfMemory>
     ensures { OnOk result (string_bytes text.new ≡ string_bytes text.old ++ block_at L.meaning
-        terminals.now (slice_get conflicts.now place)) }
+        lines.now (slice_get conflicts.now place)) }
 {
     if place < conflicts.len() {
-        push_conflict(alloc, text, &conflicts[place], terminals)?;
+        push_conflict(alloc, text, &conflicts[place], lines)?;
     }
     Ok(())
 }
@@ -111,13 +111,13 @@ pub(crate) fn push_conflicts_at<L: LookaheadPrinter<String>>(
     text: &mut String,
     conflicts: &[Conflict<'_, L>],
     places: &[usize],
-    terminals: &TerminalSet,
+    lines: &LookaheadLines<'_, L>,
 ) -> Result<(), OutOfMemory>
     ensures { OnOk result (string_bytes text.new ≡ string_bytes text.old ++ flat_map
-        (λ place. block_at L.meaning terminals.now (slice_get conflicts.now place)) places.now) }
+        (λ place. block_at L.meaning lines.now (slice_get conflicts.now place)) places.now) }
 {
     for place in places {
-        push_conflict_at(alloc, text, conflicts, *place, terminals)?;
+        push_conflict_at(alloc, text, conflicts, *place, lines)?;
     }
     Ok(())
 }

@@ -3,6 +3,7 @@ ghost use Rattle.std.specs.Prelude.{◌≡◌, ◌++◌, OnOk, string_bytes};
 ghost use Rattle.lalrpop_base.specs.Words.{symbols_text};
 ghost use Rattle.lalrpop_report.specs.reports.ReportLines.{filled, production_line, lookahead_line, item_lines, reduction_lines, shift_line, goto_line};
 
+use super::lookahead_lines::LookaheadLines;
 use super::printer::LookaheadPrinter;
 use lalrpop_base::lr1_core::item::Item;
 use lalrpop_base::lr1_core::state::StateIndex;
@@ -66,10 +67,10 @@ pub(crate) fn push_item<L: LookaheadPrinter<String>>(
     text: &mut String,
     item: &Item<'_, L>,
     width: usize,
-    terminals: &TerminalSet,
+    lines: &LookaheadLines<'_, L>,
 ) -> Result<(), OutOfMemory>
     ensures { OnOk result (string_bytes text.new ≡ string_bytes text.old ++ item_lines L.meaning
-        terminals.now width item.now) }
+        lines.now width item.now) }
 {
     text.push_str("\n    ")?;
     push_filled(text, item.production.nonterminal.text.as_str(), width)?;
@@ -78,7 +79,7 @@ pub(crate) fn push_item<L: LookaheadPrinter<String>>(
     text.push_str(" .")?;
     push_symbols(text, item.rest())?;
     text.push_str("\n")?;
-    push_lookahead(text, &item.lookahead, terminals)?;
+    lines.push_line(text, &item.lookahead)?;
     Ok(())
 }
 
@@ -86,14 +87,14 @@ pub(crate) fn push_item<L: LookaheadPrinter<String>>(
 pub(crate) fn push_reduction<L: LookaheadPrinter<String>>(
     text: &mut String,
     reduction: &(L, &Production),
-    terminals: &TerminalSet,
+    lines: &LookaheadLines<'_, L>,
 ) -> Result<(), OutOfMemory>
     ensures { OnOk result (string_bytes text.new ≡ string_bytes text.old ++ reduction_lines
-        L.meaning terminals.now reduction.now) }
+        L.meaning lines.now reduction.now) }
 {
     text.push_str("\n    reduction ")?;
     push_production(text, reduction.1)?;
-    push_lookahead(text, &reduction.0, terminals)?;
+    lines.push_line(text, &reduction.0)?;
     Ok(())
 }
 

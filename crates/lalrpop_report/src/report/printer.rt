@@ -1,9 +1,10 @@
 //! The printing of tokens in a report, and the lengths of names there.
-ghost use Rattle.std.specs.Prelude.{◌≡◌, ◌≢◌, ◌++◌, ◌↔◌, [], ℕ, List, length, IsTrue, OnOk, codes};
+ghost use Rattle.std.specs.Prelude.{◌≡◌, ◌≢◌, ◌++◌, ◌↔◌, [], ℕ, List, length, true, IsTrue, OnOk, codes};
 ghost use Rattle.std.specs.Fmt.{WritesInCalls};
 ghost use Rattle.lalrpop_base.specs.Words.{rising, nonterminal_text, terminal_text, token_text, seen};
 ghost use Rattle.lalrpop_report.specs.reports.ReportLines.{tokens_in, tokens_text};
 
+use lalrpop_base::exact::equal;
 use lalrpop_base::lookahead::Lookahead;
 use lalrpop_base::lookahead::nil::Nil;
 use lalrpop_base::lookahead::token::TokenRef;
@@ -22,6 +23,14 @@ pub trait LookaheadPrinter<W: fmt::Write>: Lookahead {
     /// Whether the lookahead has a token.
     fn has_anything_to_print(&self) -> bool
         ensures { IsTrue result ↔ (rising (Self.meaning self.now) ≢ []) };
+
+    /// Whether the tokens of another lookahead are the same, so that both have one text. The default
+    /// body says no, which is always right: then each text is made anew.
+    fn is_printed_as(&self, _other: &Self) -> bool
+        ensures { result ≡ true → Self.meaning self.now ≡ Self.meaning _other.now }
+    {
+        false
+    }
 }
 
 impl<W: fmt::Write> LookaheadPrinter<W> for Nil {
@@ -31,6 +40,10 @@ impl<W: fmt::Write> LookaheadPrinter<W> for Nil {
 
     fn has_anything_to_print(&self) -> bool {
         false
+    }
+
+    fn is_printed_as(&self, _other: &Self) -> bool {
+        true
     }
 }
 
@@ -44,6 +57,10 @@ impl<W: fmt::Write> LookaheadPrinter<W> for TokenSet {
 
     fn has_anything_to_print(&self) -> bool {
         self.len() > 0
+    }
+
+    fn is_printed_as(&self, other: &Self) -> bool {
+        equal(self, other)
     }
 }
 

@@ -8,11 +8,11 @@ ghost use Rattle.lalrpop_report.specs.reports.ReportStates.{items_block, reducti
 
 use super::conflicts::push_conflicts_at;
 use super::lines::{push_goto, push_item, push_reduction, push_shift};
+use super::lookahead_lines::LookaheadLines;
 use super::printer::{HasDisplayLen, LookaheadPrinter};
 use lalrpop_base::lr1_core::item::Item;
 use lalrpop_base::lr1_core::state::{Conflict, State, StateIndex};
 use lalrpop_base::memory::OutOfMemory;
-use lalrpop_base::repr::terminals::TerminalSet;
 use lalrpop_base::repr::{NonterminalString, Production, TerminalString};
 use std::alloc::Global;
 use std::collections::BTreeMap;
@@ -44,14 +44,14 @@ fn widest_key<K: Ord + HasDisplayLen, V>(edges: &BTreeMap<K, V>) -> usize
 fn push_items<L: LookaheadPrinter<String>>(
     text: &mut String,
     items: &[Item<'_, L>],
-    terminals: &TerminalSet,
+    lines: &LookaheadLines<'_, L>,
 ) -> Result<(), OutOfMemory>
     ensures { OnOk result (string_bytes text.new ≡ string_bytes text.old ++ items_block L.meaning
-        terminals.now items.now) }
+        lines.now items.now) }
 {
     let width = widest_nonterminal(items);
     for item in items {
-        push_item(text, item, width, terminals)?;
+        push_item(text, item, width, lines)?;
     }
     Ok(())
 }
@@ -60,13 +60,13 @@ fn push_items<L: LookaheadPrinter<String>>(
 fn push_each_reduction<L: LookaheadPrinter<String>>(
     text: &mut String,
     reductions: &[(L, &Production)],
-    terminals: &TerminalSet,
+    lines: &LookaheadLines<'_, L>,
 ) -> Result<(), OutOfMemory>
     ensures { OnOk result (string_bytes text.new ≡ string_bytes text.old ++ flat_map
-        (reduction_lines L.meaning terminals.now) reductions.now) }
+        (reduction_lines L.meaning lines.now) reductions.now) }
 {
     for reduction in reductions {
-        push_reduction(text, reduction, terminals)?;
+        push_reduction(text, reduction, lines)?;
     }
     Ok(())
 }
@@ -75,16 +75,16 @@ fn push_each_reduction<L: LookaheadPrinter<String>>(
 fn push_reductions<L: LookaheadPrinter<String>>(
     text: &mut String,
     reductions: &[(L, &Production)],
-    terminals: &TerminalSet,
+    lines: &LookaheadLines<'_, L>,
 ) -> Result<(), OutOfMemory>
     ensures { OnOk result (string_bytes text.new ≡ string_bytes text.old ++ reductions_block
-        L.meaning terminals.now reductions.now) }
+        L.meaning lines.now reductions.now) }
 {
     if reductions.is_empty() {
         return Ok(());
     }
     text.push_str("\n")?;
-    push_each_reduction(text, reductions, terminals)?;
+    push_each_reduction(text, reductions, lines)?;
     Ok(())
 }
 
@@ -144,18 +144,18 @@ pub(crate) fn push_state<L: LookaheadPrinter<String>>(
     state: &State<'_, L>,
     conflicts: &[Conflict<'_, L>],
     places: &[usize],
-    terminals: &TerminalSet,
+    lines: &LookaheadLines<'_, L>,
 ) -> Result<(), OutOfMemory>
     ensures { (own : List (Conflict L)) →
         map (slice_get conflicts.now) places.now ≡ map (λ (c : Conflict L). Some c) own →
         OnOk result (string_bytes text.new
-        ≡ string_bytes text.old ++ state_block L.meaning terminals.now own state.now) }
+        ≡ string_bytes text.old ++ state_block L.meaning lines.now own state.now) }
 {
     write!(text, "State {} {{\n", state.index)?;
-    push_items(text, &state.items.vec, terminals)?;
-    push_reductions(text, &state.reductions, terminals)?;
+    push_items(text, &state.items.vec, lines)?;
+    push_reductions(text, &state.reductions, lines)?;
     push_edges(alloc, text, &state.shifts, &state.gotos)?;
-    push_conflicts_at(alloc, text, conflicts, places, terminals)?;
+    push_conflicts_at(alloc, text, conflicts, places, lines)?;
     text.push_str("}\n")?;
     Ok(())
 }

@@ -8,6 +8,7 @@ ghost use Rattle.lalrpop_report.specs.reports.ReportPlaces.{places_of, ArePlaces
 ghost use Rattle.lalrpop_report.specs.reports.ReportSinks.{IfWriteFault, TellsOfText};
 
 use super::error::ReportError;
+use super::lookahead_lines::{LookaheadLines, lines_of};
 use super::printer::LookaheadPrinter;
 use super::states::push_state;
 use super::summary::{push_conflicts_summary, push_opening, push_section_header, push_states_line};
@@ -48,15 +49,15 @@ fn push_next_state<L: LookaheadPrinter<String>>(
     state: &State<'_, L>,
     conflicts: &[Conflict<'_, L>],
     places: &Places,
-    terminals: &TerminalSet,
+    lines: &LookaheadLines<'_, L>,
 ) -> Result<(), OutOfMemory>
     requires { ArePlacesOf conflicts.now conflicts.now places.now }
     ensures { OnOk result (string_bytes text.new ≡ string_bytes text.old ++ next_state L.meaning
-        terminals.now conflicts.now state.now) }
+        lines.now conflicts.now state.now) }
 {
     text.push_str("\n")?;
     let own = places_in(places, state.index.0);
-    push_state(alloc, text, state, conflicts, own, terminals)?;
+    push_state(alloc, text, state, conflicts, own, lines)?;
     Ok(())
 }
 
@@ -67,14 +68,14 @@ fn push_states<L: LookaheadPrinter<String>>(
     states: &[State<'_, L>],
     conflicts: &[Conflict<'_, L>],
     places: &Places,
-    terminals: &TerminalSet,
+    lines: &LookaheadLines<'_, L>,
 ) -> Result<(), OutOfMemory>
     requires { ArePlacesOf conflicts.now conflicts.now places.now }
     ensures { OnOk result (string_bytes text.new ≡ string_bytes text.old ++ flat_map
-        (next_state L.meaning terminals.now conflicts.now) states.now) }
+        (next_state L.meaning lines.now conflicts.now) states.now) }
 {
     for state in states {
-        push_next_state(alloc, text, state, conflicts, places, terminals)?;
+        push_next_state(alloc, text, state, conflicts, places, lines)?;
     }
     Ok(())
 }
@@ -91,8 +92,9 @@ fn push_states_section<L: LookaheadPrinter<String>>(
         terminals.now conflicts.now states.now) }
 {
     let places = places_by_state(alloc, conflicts)?;
+    let lines = lines_of(alloc, terminals, states, conflicts)?;
     push_section_header(text, "State Table")?;
-    push_states(alloc, text, states, conflicts, &places, terminals)?;
+    push_states(alloc, text, states, conflicts, &places, &lines)?;
     Ok(())
 }
 

@@ -5,4 +5,4 @@ use Rattle.lalrpop_report.proofs.report.conflicts.push_conflicts_at.Given as goa
 
 abbrev pub invariant-loop-place : goal.invariant-loop-place
 invariant-loop-place g l =
-    string_bytes l.text ≡ string_bytes l.fn.text ++ flat_map (λ place. block_at g.L.Lookahead.meaning l.terminals (slice_get l.conflicts place)) (take l.place-index l.places)
+    string_bytes l.text ≡ string_bytes l.fn.text ++ flat_map (λ place. block_at g.L.Lookahead.meaning l.lines (slice_get l.conflicts place)) (take l.place-index l.places)

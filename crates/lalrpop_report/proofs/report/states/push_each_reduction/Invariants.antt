@@ -5,4 +5,4 @@ use Rattle.lalrpop_report.proofs.report.states.push_each_reduction.Given as goal
 
 abbrev pub invariant-loop-reduction : goal.invariant-loop-reduction
 invariant-loop-reduction g l =
-    string_bytes l.text ≡ string_bytes l.fn.text ++ flat_map (reduction_lines g.L.Lookahead.meaning l.terminals) (take l.reduction-index l.reductions)
+    string_bytes l.text ≡ string_bytes l.fn.text ++ flat_map (reduction_lines g.L.Lookahead.meaning l.lines) (take l.reduction-index l.reductions)

@@ -5,4 +5,4 @@ use Rattle.lalrpop_report.proofs.report.states.push_items.Given as goal
 
 abbrev pub invariant-loop-item : goal.invariant-loop-item
 invariant-loop-item g l =
-    string_bytes l.text ≡ string_bytes l.fn.text ++ flat_map (item_lines g.L.Lookahead.meaning l.terminals l.width) (take l.item-index l.items)
+    string_bytes l.text ≡ string_bytes l.fn.text ++ flat_map (item_lines g.L.Lookahead.meaning l.lines l.width) (take l.item-index l.items)

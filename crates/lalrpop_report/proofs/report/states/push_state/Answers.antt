@@ -7,7 +7,7 @@ use Rattle.lalrpop_report.proofs.report.states.push_state.Goals as goal
 pub returns : goal.returns
 returns g c = λ own same.
     let meaning = g.L.Lookahead.meaning in
-    let terminals = c.args.terminals.now in
+    let terminals = c.args.lines.now in
     let blocks = blocks_at_places (conflict_block meaning terminals) (block_at meaning terminals) c.args.conflicts.now c.args.places.now own (λ d. refl) same in
     six_pieces _ _ _ _ _ _ _ _ _ _ _ _ _ c.in_ok-write.ensures.bytes
     (c.in_ok-push_items.ensures ∙ ap (λ items. string_bytes c.write.new.self ++ items_block meaning terminals items) c.deref.ensures.value)

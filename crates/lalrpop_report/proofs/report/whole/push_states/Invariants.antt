@@ -5,4 +5,4 @@ use Rattle.lalrpop_report.proofs.report.whole.push_states.Given as goal
 
 abbrev pub invariant-loop-state : goal.invariant-loop-state
 invariant-loop-state g l =
-    string_bytes l.text ≡ string_bytes l.fn.text ++ flat_map (next_state g.L.Lookahead.meaning l.terminals l.conflicts) (take l.state-index l.states)
+    string_bytes l.text ≡ string_bytes l.fn.text ++ flat_map (next_state g.L.Lookahead.meaning l.lines l.conflicts) (take l.state-index l.states)
