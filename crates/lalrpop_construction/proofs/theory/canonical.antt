@@ -4,6 +4,7 @@ pub mod CanonicalAnswers
 pub mod CanonicalConflicts
 pub mod CanonicalContents
 pub mod CanonicalCounts
+pub mod CountedStates
 pub mod Counts
 pub mod Deciding
 pub mod Lr0States

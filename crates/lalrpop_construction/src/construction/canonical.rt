@@ -4,9 +4,8 @@ ghost use Rattle.lalrpop_base.specs.Words.{IsWellFormed};
 ghost use Rattle.lalrpop_construction.specs.construction.Results.{canonical_of, lr0_of};
 ghost use Rattle.lalrpop_construction.specs.canonical.CanonicalAnswers.{AreCanonicalTables, AreCanonicalTablesOrCount, FailsByConflicts};
 
+use super::counting::states_or_count;
 use super::lr::Lr;
-use super::results::tables_or_count;
-use super::states::all_states;
 use super::tables_or_count::TablesOrCount;
 use lalrpop_base::lookahead::nil::Nil;
 use lalrpop_base::lookahead::token_set::TokenSet;
@@ -69,6 +68,6 @@ pub fn canonical_states_or_count<'grammar>(
     let _names = grammar.nonterminals.len();
     let _terminals = grammar.terminals.all();
     let canonical = canonical_construction(alloc, grammar, lr)?;
-    let states = all_states(alloc, &canonical)?;
-    Ok(tables_or_count(states, &grammar.terminals))
+    let answer = states_or_count(alloc, &canonical)?;
+    Ok(answer)
 }

@@ -1,5 +1,5 @@
 //! A step of a construction, which makes one state.
-ghost use Rattle.std.specs.Prelude.{◌≡◌, ◌+◌, ◌++◌, ◌∷◌, [], List, length, map, IsTrue, IsFalse, IfOk, OnOk};
+ghost use Rattle.std.specs.Prelude.{◌≡◌, ◌+◌, ◌++◌, ◌∷◌, [], List, length, map, IsTrue, IsFalse, IsNone, IfOk, IfSome, OnOk};
 ghost use Rattle.lalrpop_base.specs.Words.{Dotted, Rules, AreAllNumbered, AreNumbered, AreNumbers, items_by, kernels_by, IsBuiltBy, Extends};
 ghost use Rattle.lalrpop_construction.specs.construction.Building.{AreMadeSoFar};
 ghost use Rattle.lalrpop_base.specs.Words.{LeadsToAdded, state_entries, reductions_of, seen_reduction, AreItemsBy, IsClosureBy};
@@ -84,7 +84,49 @@ fn state_of<'grammar, L: LookaheadBuild>(
     })
 }
 
-/// Makes the state of the next kernel, if one is left, and returns whether one was. The items and
+/// Makes the state of the next kernel, if one is left. The items and transitions of the state by
+/// number are left in `work`. `OutOfMemory` if an allocation fails.
+pub(super) fn next_state<'grammar, L: LookaheadBuild>(
+    alloc: Global,
+    lr: &Lr<'grammar, L>,
+    numbers: &Numbers<'grammar>,
+    kernels: &mut NumberedKernels<L>,
+    work: &mut Workspace<L>,
+) -> Result<Option<State<'grammar, L>>, OutOfMemory>
+    requires numbers { AreNumbers lr.now.construction.rules numbers.now }
+    requires made { (states : List (Made L)) × AreMadeSoFar L.meaning L.begins L.passes
+        lr.now.construction numbers.now.items.items kernels.old states }
+    ensures made { IfOk result (λ next. IfSome next (λ state. (states : List (Made L)) →
+        AreMadeSoFar L.meaning L.begins L.passes lr.now.construction numbers.now.items.items
+        kernels.old states →
+        AreMadeSoFar L.meaning L.begins L.passes lr.now.construction numbers.now.items.items
+        kernels.new (states ++ state ∷ []))) }
+    ensures by_number { IfOk result (λ next. IfSome next
+        (IsMadeByNumber numbers.now work.new.numbers.items work.new.edges.items)) }
+    ensures counted { IfOk result
+        (λ next. IfSome next (λ state. kernels.new.handed ≡ kernels.old.handed + 1)) }
+    ensures none { IfOk result (λ next. IsNone next → kernels.new ≡ kernels.old) }
+    ensures all { IfOk result
+        (λ next. IsNone next → kernels.new.handed ≡ length kernels.new.list) }
+{
+    let Some(number) = kernels.next() else {
+        return Ok(None);
+    };
+    let list = closure(alloc, lr, numbers, kernels.items(number), work)?;
+    list_numbers(&list, &mut work.numbers)?;
+    let state = state_of(
+        alloc,
+        numbers,
+        list,
+        number,
+        kernels,
+        &mut work.moves,
+        &mut work.edges,
+    )?;
+    Ok(Some(state))
+}
+
+/// Adds the state of the next kernel, if one is left, and returns whether one was. The items and
 /// transitions of the state by number are left in `work`. `OutOfMemory` if an allocation fails.
 pub(super) fn add_state<'grammar, L: LookaheadBuild>(
     alloc: Global,
@@ -109,20 +151,9 @@ pub(super) fn add_state<'grammar, L: LookaheadBuild>(
     ensures all { IfOk result
         (λ more. IsFalse more → kernels.new.handed ≡ length kernels.new.list) }
 {
-    let Some(number) = kernels.next() else {
+    let Some(state) = next_state(alloc, lr, numbers, kernels, work)? else {
         return Ok(false);
     };
-    let list = closure(alloc, lr, numbers, kernels.items(number), work)?;
-    list_numbers(&list, &mut work.numbers)?;
-    let state = state_of(
-        alloc,
-        numbers,
-        list,
-        number,
-        kernels,
-        &mut work.moves,
-        &mut work.edges,
-    )?;
     states.push(state)?;
     Ok(true)
 }

@@ -31,8 +31,9 @@ fn are_enough(stop_after: usize, found: usize) -> bool
     stop_after > 0 && stop_after <= found
 }
 
-// The kernels when a construction begins: the kernel of the start symbol, which has no state yet.
-fn first_kernels<'grammar, L: LookaheadBuild>(
+/// The kernels when a construction begins: the kernel of the start symbol, which has no state yet.
+/// `OutOfMemory` if an allocation fails.
+pub(super) fn first_kernels<'grammar, L: LookaheadBuild>(
     alloc: Global,
     lr: &Lr<'grammar, L>,
     numbers: &Numbers<'grammar>,
@@ -68,23 +69,6 @@ pub fn build_states<'grammar, L: LookaheadBuild>(
         }
     }
     Ok((states, conflicts))
-}
-
-/// All states, numbered in the order in which their kernels first appear. Conflicts are not looked
-/// for. `OutOfMemory` if an allocation fails.
-pub fn all_states<'grammar, L: LookaheadBuild>(
-    alloc: Global,
-    lr: &Lr<'grammar, L>,
-) -> Result<Vec<State<'grammar, L>>, OutOfMemory>
-    ensures { IfOk result (λ states. AreStatesFor L.meaning L.begins L.passes L.lists_conflicts
-        lr.now.construction states.items) }
-{
-    let numbers = lr.numbers();
-    let mut kernels = first_kernels(alloc, lr, numbers)?;
-    let mut work = Workspace::new(alloc);
-    let mut states = Vec::new(alloc);
-    while add_state(alloc, lr, numbers, &mut kernels, &mut states, &mut work)? {}
-    Ok(states)
 }
 
 /// All states, numbered in the order in which their kernels first appear, and the same states by
