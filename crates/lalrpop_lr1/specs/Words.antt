@@ -45,7 +45,7 @@ pub use Rattle.lalrpop_traces.specs.traces.Examples.{edge_cursor, edge_of, follo
 pub use Rattle.lalrpop_traces.specs.traces.Examples.{edge_suffix, suffixes}
 pub use Rattle.lalrpop_traces.specs.traces.Meetings.{AddsInOrder, AreMet, AreNamed, HasMet, IsInsertedPair, IsStep, WalksOn, asked, duties_left, duties_of}
 pub use Rattle.lalrpop_traces.specs.traces.Meetings.{duty_steps, item_steps, meeting_cmp, meetings, names_in, unmet, work}
-pub use Rattle.lalrpop_traces.specs.traces.Paths.{GoesBack, GoesOnTo, IsPath, are_one, comes_again, is_item, item_node, left_over, over, passed, paths, source, source_of, target}
+pub use Rattle.lalrpop_traces.specs.traces.Paths.{GoesBack, GoesOnTo, OpensTo, IsPath, are_one, comes_again, is_item, item_node, left_over, over, passed, paths, source, source_of, target}
 pub use Rattle.lalrpop_traces.specs.traces.Paths.{target_node}
 pub use Rattle.lalrpop_traces.specs.traces.TraceGraphs.{AddsBoth, AddsEdge, AddsNoOther, AreKnownEdges, Graph, HaveEnds, IsEndpoint, IsFrom, IsGraph, IsKept, IsKnownLabel}
 pub use Rattle.lalrpop_traces.specs.traces.TraceGraphs.{KeepPlaces, PlainEdge, SameLabels, node_count, edge_numbers_to_source, numbers_to, numbers_to_source, places_from, plain}
@@ -54,7 +54,7 @@ pub use Rattle.lalrpop_traces.specs.traces.TraceOrder.{AddsInTurn, AreSources, D
 pub use Rattle.lalrpop_traces.specs.traces.TraceOrder.{left_out, meets, onward_edge, onward_edges, passes, put_behind, stop_edge, take_up, take_up_each}
 pub use Rattle.lalrpop_traces.specs.traces.Traces.{Backtrace, GivesEdge, GoesOn, HasOwnProductions, HasOwnTerminals, IsMet, IsSource, IsTraceOf, IsTraced, Meeting, StandsIn}
 pub use Rattle.lalrpop_traces.specs.traces.Traces.{Takes, begins, dot_edge, dotted, first, given, itself, onward, own_edge, reduction_traced, shift_traced}
-pub use Rattle.lalrpop_traces.specs.traces.Walks.{GivesNext, GivesNextMeeting, GoesTo, HasSkipped, IsEnded, IsExhausted, IsOfFirst, IsOfFirstMeeting, IsSameFilter, Meets, NoneMeets}
+pub use Rattle.lalrpop_traces.specs.traces.Walks.{GivesNext, GivesNextMeeting, GoesTo, HasNoToken, HasSkipped, LeavesOut, IsEnded, IsExhausted, IsOfFirst, IsOfFirstMeeting, IsSameFilter, Meets, NoneMeets}
 pub use Rattle.lalrpop_traces.specs.traces.Walks.{and_behind, bound, bound_of, edge_weight, frames, load, load_of, numbers_at, paths_over, remaining, steps, to_come}
 pub use Rattle.lalrpop_traces.specs.traces.Walks.{total, weight}
 pub use Rattle.lalrpop_parser.specs.trees.EqualTrees.{equal_tree, tree_exact, tree_same}

@@ -4,6 +4,7 @@ pub mod CanMeet
 pub mod Counting
 pub mod Ends
 pub mod FilteredWalks
+pub mod KeptGraphs
 pub mod KnownLabels
 pub mod Meetings
 pub mod Nullable

@@ -3,12 +3,12 @@ use Rattle.std.specs.Prelude.{◌≡◌, ℕ, suc, List, [], ◌∷◌, ◌++◌
 use Rattle.std.specs.BTreeMap.{BTreeMap}
 use Rattle.std.specs.declared.alloc.Global.{Global}
 use Rattle.std.specs.declared.vec.Vec.{Vec}
-use Rattle.lalrpop_base.specs.Words.{IsNumbering, AddsOnce, collection_at, AllDiffer, HasKnownTerminals}
+use Rattle.lalrpop_base.specs.Words.{IsNumbering, AddsOnce, AllDiffer, HasKnownTerminals}
 use Rattle.lalrpop_grammar.specs.declared.repr.TerminalString.{TerminalString}
 use Rattle.lalrpop_grammar.specs.declared.repr.Symbol.{Symbol}
 use Rattle.lalrpop_grammar.specs.declared.repr.Symbol.TheVariants.{Terminal}
 use Rattle.lalrpop_states.specs.declared.lr1_core.symbol_sets.SymbolSets.{SymbolSets}
-use Rattle.lalrpop_state_graph.specs.Words.{listed}
+use Rattle.lalrpop_state_graph.specs.Words.{list_at}
 use Rattle.lalrpop_traces.specs.contracts.trace.node.TraceGraphNodeOrd.TheImpl as node_ord
 use Rattle.lalrpop_traces.specs.contracts.trace.node.TraceGraphNodePartialEq.TheImpl as node_eq
 use Rattle.lalrpop_traces.specs.declared.trace.node.TraceGraphNode.{TraceGraphNode}
@@ -111,10 +111,13 @@ pub record SameLabels (a b : SymbolSets) : Type 0 where
 abbrev pub IsFrom : TraceGraphNode → SymbolSets → TraceGraphEdge → Type 0
 IsFrom from labels e = (e.from ≡ from) × SameLabels e.symbol_sets labels
 
--- the parts of a graph: a map of the numbers of the nodes, the edges, and a map of the places of
--- the edges to each node
-pub record IsKept (numbers : BTreeMap TraceGraphNode ℕ) (nodes : List TraceGraphNode) (edges : List TraceGraphEdge) (incoming : List (TraceGraphNode × Vec ℕ Global)) : Type 0 where
+-- the parts of a graph: a map of the numbers of the nodes, the edges, the number of the source of
+-- each edge, and the places of the edges to each node
+pub record IsKept (numbers : BTreeMap TraceGraphNode ℕ) (nodes : List TraceGraphNode) (edges : List TraceGraphEdge) (sources : List ℕ) (incoming : List (Vec ℕ Global)) : Type 0 where
   pub numbered : IsNumbering node_ord.ghosts.cmp numbers []
-  pub places : (node : TraceGraphNode) → listed (collection_at node_ord.ghosts.cmp incoming node) ≡ places_from 0 node edges
+  pub lists : length incoming ≡ length nodes
+  pub places : (n : ℕ) (node : TraceGraphNode) → slice_get nodes n ≡ Some node → list_at incoming n ≡ places_from 0 node edges
+  pub counted : length sources ≡ length edges
+  pub from : (k n : ℕ) (e : TraceGraphEdge) → slice_get edges k ≡ Some e → slice_get sources k ≡ Some n → slice_get nodes n ≡ Some e.from
   pub differ : AllDiffer (map plain edges)
   pub ends : HaveEnds nodes edges

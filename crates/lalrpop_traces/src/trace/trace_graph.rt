@@ -1,25 +1,21 @@
 //! The graph of a trace.
-ghost use Rattle.std.specs.Prelude.{◌≡◌, ◌∷◌, ◌++◌, ◌↔◌, [], ℕ, List, Some, None, IsTrue, IsNone, IfOk, OnOk, OnErr, false, Contains, map, length, slice_get, option_copied};
+ghost use Rattle.std.specs.Prelude.{◌≡◌, ◌∷◌, ◌++◌, ◌↔◌, [], ℕ, List, Some, None, IsTrue, IsNone, IfSome, IfOk, OnOk, OnErr, false, Contains, map, slice_get};
 ghost use Rattle.lalrpop_base.specs.Words.{AddsOnce, AllDiffer};
 ghost use Rattle.lalrpop_grammar.specs.declared.repr.Production.{Production};
-ghost use Rattle.lalrpop_grammar.specs.declared.repr.TerminalString.{TerminalString};
-ghost use Rattle.lalrpop_traces.specs.traces.Paths.{is_item, item_node, source, are_one, paths, IsPath};
-ghost use Rattle.lalrpop_traces.specs.traces.Examples.{edge_prefix, edge_cursor, edge_suffix, reduced_name, IsExampleOf, CarryRightSides, SpellsDerivation};
-ghost use Rattle.lalrpop_traces.specs.traces.TraceGraphs.{AreKnownEdges, IsKnownLabel, IsGraph, IsFrom, KeepPlaces, AddsBoth, AddsNoOther, AddsEdge, SameLabels, plain, plain_edge, node_count, numbers_to, edge_numbers_to_source};
+ghost use Rattle.lalrpop_traces.specs.traces.Paths.{item_node, source, paths, IsPath};
+ghost use Rattle.lalrpop_traces.specs.traces.Examples.{IsExampleOf, CarryRightSides, SpellsDerivation};
+ghost use Rattle.lalrpop_traces.specs.traces.TraceGraphs.{AreKnownEdges, IsGraph, KeepPlaces, AddsBoth, AddsNoOther, AddsEdge, SameLabels, plain, plain_edge, node_count, numbers_to};
 ghost use Rattle.lalrpop_traces.specs.traces.Walks.{to_come};
 ghost use Rattle.lalrpop_traces.specs.declared.trace.example.Example.{Example};
-ghost use Rattle.lalrpop_traces.specs.declared.trace.trace_graph.TraceGraphEdge.{TraceGraphEdge};
+ghost use Rattle.lalrpop_traces.specs.declared.trace.node.TraceGraphNode.{TraceGraphNode};
 
 use super::enumerator::PathEnumerator;
 use super::filtered::FilteredPathEnumerator;
 use super::node::TraceGraphNode;
-use lalrpop_base::collections::multimap::Multimap;
-use lalrpop_base::exact::equal;
 use lalrpop_base::first::FirstSets;
 use lalrpop_base::lr1_core::item::{Lr0Item, Lr1Item};
 use lalrpop_base::lr1_core::symbol_sets::SymbolSets;
 use lalrpop_base::memory::OutOfMemory;
-use lalrpop_base::repr::NonterminalString;
 use std::alloc::Global;
 use std::collections::BTreeMap;
 use std::fmt;
@@ -38,13 +34,15 @@ pub struct TraceGraphEdge<'grammar> {
     pub symbol_sets: SymbolSets<'grammar>,
 }
 
-/// Nodes, and edges between them, none twice. The numbers of the edges to each node are kept.
+/// Nodes, and edges between them, none twice. Each edge has the number of its source, and each node
+/// the numbers of the edges to it.
 #[derive(Drop)]
 pub struct TraceGraph<'grammar> {
     alloc: Global,
     indices: BTreeMap<TraceGraphNode<'grammar>, usize>,
     edges: Vec<TraceGraphEdge<'grammar>>,
-    incoming: Multimap<TraceGraphNode<'grammar>, Vec<usize>>,
+    sources: Vec<usize>,
+    incoming: Vec<Vec<usize>>,
 }
 
 impl<'grammar> Model for TraceGraph<'grammar> {
@@ -56,7 +54,7 @@ impl<'grammar> Model for TraceGraph<'grammar> {
     ghost view = { λ g. record { nodes = by_number g.indices.entries; edges = g.edges.items } };
 
     ghost invariant = { λ g. IsKept g.indices (by_number g.indices.entries) g.edges.items
-        g.incoming };
+        g.sources.items g.incoming.items };
 }
 
 /// Prints the edges, in the order of their numbers.
@@ -75,7 +73,8 @@ impl<'grammar> TraceGraph<'grammar> {
             alloc,
             indices: BTreeMap::new(alloc),
             edges: Vec::new(alloc),
-            incoming: Multimap::new(alloc),
+            sources: Vec::new(alloc),
+            incoming: Vec::new(alloc),
         }
     }
 
@@ -94,7 +93,9 @@ impl<'grammar> TraceGraph<'grammar> {
             return Ok(NodeIndex(*index));
         }
         let index = self.indices.len();
+        self.incoming.reserve(1)?;
         self.indices.insert(node, index)?;
+        self.incoming.push(Vec::new(self.alloc)).unwrap();
         Ok(NodeIndex(index))
     }
 
@@ -115,14 +116,14 @@ impl<'grammar> TraceGraph<'grammar> {
         ensures err { OnErr result (self.new.edges ≡ self.old.edges) }
     {
         let alloc = self.alloc;
-        self.add_node(from.clone(alloc)?)?;
-        self.add_node(to.clone(alloc)?)?;
-        if self.has_edge(&from, &to, &labels) {
+        let source = self.add_node(from.clone(alloc)?)?;
+        let target = self.add_node(to.clone(alloc)?)?;
+        if self.has_edge(source, target, &labels) {
             return Ok(());
         }
-        let key = to.clone(alloc)?;
         self.push_edge(
-            key,
+            source,
+            target,
             TraceGraphEdge {
                 from,
                 to,
@@ -131,15 +132,15 @@ impl<'grammar> TraceGraph<'grammar> {
         )
     }
 
-    // Adds an edge to the node `key` after the others.
+    // Adds an edge between the nodes with the numbers after the others.
     fn push_edge(
         &mut self,
-        key: TraceGraphNode<'grammar>,
+        source: NodeIndex,
+        target: NodeIndex,
         edge: TraceGraphEdge<'grammar>,
     ) -> Result<(), OutOfMemory>
-        requires key { key ≡ edge.to }
-        requires from { Contains self.old.nodes edge.from }
-        requires to { Contains self.old.nodes edge.to }
+        requires from { slice_get self.old.nodes source.0 ≡ Some edge.from }
+        requires to { slice_get self.old.nodes target.0 ≡ Some edge.to }
         requires fresh { ¬ Contains (map plain self.old.edges) (plain edge) }
         ensures graph { IsGraph self.new }
         ensures pushed { OnOk result (self.new ≡ record
@@ -148,47 +149,52 @@ impl<'grammar> TraceGraph<'grammar> {
     {
         let number = self.edges.len();
         self.edges.reserve(1)?;
-        self.incoming.push(key, number)?;
+        self.sources.reserve(1)?;
+        self.incoming[target.0].push(number)?;
+        self.sources.push(source.0).unwrap();
         self.edges.push(edge).unwrap();
         Ok(())
     }
 
-    // Whether there is an equal edge.
-    fn has_edge(
-        &self,
-        from: &TraceGraphNode<'grammar>,
-        to: &TraceGraphNode<'grammar>,
-        labels: &SymbolSets<'grammar>,
-    ) -> bool
-        ensures { IsTrue result ↔ Contains (map plain self.now.edges)
-            (plain_edge from.now to.now labels.now) }
+    // Whether there is an edge between the nodes with the numbers that has the same symbols.
+    fn has_edge(&self, source: NodeIndex, target: NodeIndex, labels: &SymbolSets<'grammar>) -> bool
+        ensures { (from to : TraceGraphNode) →
+            slice_get self.now.nodes source.0 ≡ Some from →
+            slice_get self.now.nodes target.0 ≡ Some to →
+            IsTrue result ↔ Contains (map plain self.now.edges) (plain_edge from to labels.now) }
     {
-        for number in self.numbers_to(to) {
-            if self.is_edge(*number, from, labels) {
+        for number in self.numbers_at(target) {
+            if self.is_edge_of(*number, source, labels) {
                 return true;
             }
         }
         false
     }
 
-    /// Whether the edge with the number comes from the node with the labels.
-    pub(crate) fn is_edge(
-        &self,
-        number: usize,
-        from: &TraceGraphNode<'grammar>,
-        labels: &SymbolSets<'grammar>,
-    ) -> bool
-        ensures there { (e : TraceGraphEdge) →
-            slice_get self.now.edges number ≡ Some e →
-            IsTrue result ↔ IsFrom from.now labels.now e }
-        ensures none { slice_get self.now.edges number ≡ None → result ≡ false }
+    /// The numbers of the edges to the node with the number, the newest last.
+    pub(crate) fn numbers_at(&self, index: NodeIndex) -> &[usize]
+        ensures { (node : TraceGraphNode) →
+            slice_get self.now.nodes index.0 ≡ Some node →
+            result.now ≡ numbers_to self.now node }
     {
-        let edges = self.edges();
-        if number >= edges.len() {
-            return false;
+        if index.0 >= self.incoming.len() {
+            return &[];
         }
-        let edge = &edges[number];
-        same_labels(&edge.symbol_sets, labels) && equal(&edge.from, from)
+        self.incoming[index.0].as_slice()
+    }
+
+    /// The number of the node from which an edge comes, if there is such an edge.
+    pub(crate) fn source_index(&self, edge: usize) -> Option<NodeIndex>
+        ensures some { IfSome result (λ index. (node : TraceGraphNode) ×
+            (slice_get self.now.nodes index.0 ≡ Some node) ×
+            (source self.now edge ≡ Some node)) }
+        ensures none { IsNone result → slice_get self.now.edges edge ≡ None }
+        ensures graph { IsGraph self.now }
+    {
+        if edge >= self.sources.len() {
+            return None;
+        }
+        Some(NodeIndex(self.sources[edge]))
     }
 
     /// Whether the item is a node.
@@ -276,10 +282,10 @@ impl<'grammar> TraceGraph<'grammar> {
     pub(crate) fn numbers_to(&self, node: &TraceGraphNode<'grammar>) -> &[usize]
         ensures { result.now ≡ numbers_to self.now node.now }
     {
-        let Some(numbers) = self.incoming.get(node) else {
+        let Some(number) = self.indices.get(node) else {
             return &[];
         };
-        numbers.as_slice()
+        self.numbers_at(NodeIndex(*number))
     }
 
     /// The number at a place in the list `numbers_to` of a node.
@@ -292,90 +298,10 @@ impl<'grammar> TraceGraph<'grammar> {
         }
         None
     }
-
-    /// As `number_to`, for the node from which an edge comes.
-    pub(crate) fn number_from(&self, edge: usize, place: usize) -> Option<usize>
-        ensures { result ≡ slice_get (edge_numbers_to_source self.now edge) place }
-    {
-        let edges = self.edges();
-        if edge >= edges.len() {
-            return None;
-        }
-        self.number_to(&edges[edge].from, place)
-    }
-
-    /// How many edges lead to the node from which an edge comes.
-    pub(crate) fn count_from(&self, edge: usize) -> usize
-        ensures { result ≡ length (edge_numbers_to_source self.now edge) }
-    {
-        self.numbers_from(edge).len()
-    }
-
-    /// Whether an edge comes from an item.
-    pub(crate) fn comes_from_item(&self, edge: usize) -> bool
-        ensures { result ≡ is_item (source self.now edge) }
-    {
-        let edges = self.edges();
-        if edge >= edges.len() {
-            return false;
-        }
-        match &edges[edge].from {
-            TraceGraphNode::Item(_) => true,
-            TraceGraphNode::Nonterminal(_) => false,
-        }
-    }
-
-    /// Whether two edges come from one node.
-    pub(crate) fn come_together(&self, a: usize, b: usize) -> bool
-        ensures { result ≡ are_one (source self.now a) (source self.now b) }
-    {
-        let edges = self.edges();
-        if a >= edges.len() || b >= edges.len() {
-            return false;
-        }
-        edges[a].from == edges[b].from
-    }
-
-    /// The labels of an edge, which are empty if there is no such edge.
-    pub(crate) fn labels(&self, edge: usize) -> SymbolSets<'grammar>
-        ensures there { (e : TraceGraphEdge) →
-            slice_get self.now.edges edge ≡ Some e →
-            result ≡ e.symbol_sets }
-        ensures known { (terminals : List TerminalString) →
-            AreKnownEdges terminals self.now.edges →
-            IsKnownLabel terminals result }
-        ensures prefix { result.prefix.now ≡ edge_prefix (slice_get self.now.edges edge) }
-        ensures cursor { option_copied result.cursor ≡ edge_cursor (slice_get self.now.edges edge) }
-        ensures suffix { result.suffix.now ≡ edge_suffix (slice_get self.now.edges edge) }
-    {
-        let edges = self.edges();
-        if edge >= edges.len() {
-            return SymbolSets::new();
-        }
-        edges[edge].symbol_sets
-    }
-
-    /// The nonterminal of the node from which an edge comes, if there is such an edge.
-    pub(crate) fn reduced_name(
-        &self,
-        alloc: Global,
-        edge: usize,
-    ) -> Result<Option<NonterminalString>, OutOfMemory>
-        ensures { IfOk result (λ name. name ≡ reduced_name (slice_get self.now.edges edge)) }
-    {
-        let edges = self.edges();
-        if edge >= edges.len() {
-            return Ok(None);
-        }
-        match &edges[edge].from {
-            TraceGraphNode::Nonterminal(name) => Ok(Some(name.clone(alloc)?)),
-            TraceGraphNode::Item(item) => Ok(Some(item.production.nonterminal.clone(alloc)?)),
-        }
-    }
 }
 
-// Whether two labels have the same symbols.
-fn same_labels<'grammar>(a: &SymbolSets<'grammar>, b: &SymbolSets<'grammar>) -> bool
+/// Whether two labels have the same symbols.
+pub(crate) fn same_labels<'grammar>(a: &SymbolSets<'grammar>, b: &SymbolSets<'grammar>) -> bool
     ensures { IsTrue result ↔ SameLabels a.now b.now }
 {
     if a.suffix != b.suffix {

@@ -1,32 +1,26 @@
--- The graph of a trace: its parts, with a node or an edge more.
-use Rattle.std.proofs.Common.{◌≡◌, ℕ, zero, suc, ◌+◌, ◌-◌, ◌≤◌, inl, inr, Bool, true, false, cond, List, [], ◌∷◌, ◌++◌, map, length, refl, sym, ◌∙◌, ap, subst, arith, ⊎_elim, append-nil, IsTrue, ◌↔◌, Result, Ok, Err}
+-- The graph of a trace: its nodes, its edges, and the places of these.
+use Rattle.std.proofs.Common.{◌≡◌, ℕ, zero, suc, ◌+◌, inl, inr, Bool, true, false, cond, List, [], ◌∷◌, ◌++◌, map, length, refl, sym, ◌∙◌, ap, subst, arith, IsTrue, ◌↔◌, Result, Ok, Err}
 use Rattle.std.specs.Prelude.{slice_get, OnOk, OnErr, ◌⊎◌, Option, Some, None, Contains, is_some, ◌&&◌, option_copied}
 use Rattle.std.specs.Borrow.{Bor}
 use Rattle.std.specs.Option.{option_eq}
-use Rattle.std.specs.Ordering.{is_eq}
-use Rattle.std.specs.BTreeMap.{BTreeMap, get, is_at}
-use Rattle.std.specs.Map.{lookup}
-use Rattle.std.specs.Cmp.{Equal-is}
+use Rattle.std.specs.BTreeMap.{BTreeMap, get}
 use Rattle.std.specs.declared.alloc.Global.{Global}
 use Rattle.std.specs.declared.vec.Vec.{Vec}
 use Rattle.std.specs.declared.cmp.Ordering.TheVariants.{Equal}
-use Rattle.std.proofs.lemmas.Bool.{cases_Bool}
-use Rattle.std.proofs.lemmas.List.{drop_all, map-append}
-use Rattle.std.proofs.lemmas.List.Elements.{Contains-append_left, Contains-push_cases}
+use Rattle.std.proofs.lemmas.List.{map-append}
+use Rattle.std.proofs.lemmas.List.Elements.{Contains-push_cases}
 use mathlib.Core.Bool.{true≢false}
 use lib.Pointwise.{pointwise}
-use Rattle.lalrpop_base.specs.Words.{list_exact, both, IsNumbering, by_number, key_numbered, AddsOnce, collection_at, PushesAt, SameAt, AllDiffer}
+use Rattle.lalrpop_base.specs.Words.{list_exact, both, by_number, AddsOnce}
 use Rattle.lalrpop_grammar.specs.contracts.repr.exact.SymbolExact.TheImpl as symbol_exactly
 use Rattle.lalrpop_grammar.specs.contracts.repr.SymbolEq.TheImpl.Laws as symbol_equality
 use Rattle.lalrpop_grammar.specs.contracts.repr.SymbolPartialEq.TheImpl as symbol_eq
 use Rattle.lalrpop_traces.proofs.Types.{Symbol}
 use Rattle.lalrpop_states.specs.declared.lr1_core.symbol_sets.SymbolSets.{SymbolSets}
-use Rattle.lalrpop_collections.proofs.theory.states.KernelLemmas.{IsNext, all_differ, list_grows, next_numbering, exact_by_cmp}
-use Rattle.lalrpop_collections.proofs.theory.collections.MultimapLemmas.{tied_at, everywhere}
-use Rattle.lalrpop_state_graph.specs.Words.{listed}
+use Rattle.lalrpop_collections.proofs.theory.states.KernelLemmas.{all_differ, exact_by_cmp}
 use Rattle.lalrpop_numbers.proofs.theory.construction.Contained.{Decided, decided, added_or_not}
 use Rattle.lalrpop_collections.proofs.theory.lists.Members.{contains_map, place}
-use Rattle.lalrpop_collections.proofs.theory.lists.Places.{differ_push, push_cases, contains_at, same_some}
+use Rattle.lalrpop_collections.proofs.theory.lists.Places.{push_cases, contains_at, same_some}
 use Rattle.lalrpop_traces.specs.Words.{Graph, PlainEdge, plain, plain_edge, IsGraph, IsKept, IsFrom, SameLabels, HaveEnds, KeepPlaces, AddsBoth, AddsNoOther, AddsEdge, places_from}
 use Rattle.lalrpop_traces.specs.contracts.trace.node.TraceGraphNodeOrd.TheImpl as node_ord
 use Rattle.lalrpop_traces.specs.contracts.trace.node.TraceGraphNodeEq.TheImpl as node_equality
@@ -45,7 +39,7 @@ numbered_some : {K : Type 0} (o : Option K) → IsTrue (is_some o) → (k : K) �
 numbered_some None h = absurd (true≢false (sym h))
 numbered_some (Some k) h = (k, refl)
 
-module _ {numbers : BTreeMap TraceGraphNode ℕ} {edges : List TraceGraphEdge} {incoming : List (TraceGraphNode × Vec ℕ Global)} (kept : IsKept numbers (by_number numbers.entries) edges incoming) where
+module _ {numbers : BTreeMap TraceGraphNode ℕ} {edges : List TraceGraphEdge} {sources : List ℕ} {incoming : List (Vec ℕ Global)} (kept : IsKept numbers (by_number numbers.entries) edges sources incoming) where
   pub kept_graph : IsGraph (record { nodes = by_number numbers.entries; edges = edges })
   kept_graph = record { nodes = all_differ kept.numbered; edges = kept.differ; ends = kept.ends }
 
@@ -55,32 +49,6 @@ module _ {numbers : BTreeMap TraceGraphNode ℕ} {edges : List TraceGraphEdge} {
     λ h. let n = numbered_some (get node_ord.ghosts.cmp numbers node) h in contains_at (by_number numbers.entries) node n.0 (kept.numbered.found node n.0 n.1),
     λ c. let at = place (by_number numbers.entries) node c in ap is_some (kept.numbered.numbered node at.0 at.2),
   )
-
-without_pending : {numbers : BTreeMap TraceGraphNode ℕ} {pending : List TraceGraphNode} → IsNumbering node_ord.ghosts.cmp numbers pending → IsNumbering node_ord.ghosts.cmp numbers []
-without_pending {numbers} numbering = let whole = numbering.whole in record {
-  found = numbering.found;
-  numbered = numbering.numbered;
-  outside = numbering.outside;
-  whole = whole;
-  fewer = omega arith;
-  waits = sym (drop_all (length numbers.entries - length {A = TraceGraphNode} []) (by_number numbers.entries) (omega (arith, whole)));
-}
-
-ends_more : (nodes more : List TraceGraphNode) (edges : List TraceGraphEdge) (node : TraceGraphNode) → more ≡ nodes ++ node ∷ [] → HaveEnds nodes edges → HaveEnds more edges
-ends_more nodes more edges node is ends k e at =
-    let P : TraceGraphNode → List TraceGraphNode → Type 0 = λ n xs. Contains xs n in
-    let both_ends = ends k e at in
-    (subst (P e.from) (sym is) (Contains-append_left nodes (node ∷ []) e.from both_ends.0), subst (P e.to) (sym is) (Contains-append_left nodes (node ∷ []) e.to both_ends.1))
-
--- a graph with a node more
-pub kept_more : {old new : BTreeMap TraceGraphNode ℕ} {edges : List TraceGraphEdge} {incoming : List (TraceGraphNode × Vec ℕ Global)} {k : TraceGraphNode} {v : ℕ} →
-    IsKept old (by_number old.entries) edges incoming → IsNext node_ord.ghosts.cmp old new k v → IsKept new (by_number new.entries) edges incoming
-kept_more {old} {new} {edges} {incoming} {k} {v} kept step = record {
-  numbered = without_pending (next_numbering tied_nodes kept.numbered step);
-  places = kept.places;
-  differ = kept.differ;
-  ends = ends_more (by_number old.entries) (by_number new.entries) edges k (list_grows kept.numbered step) kept.ends;
-}
 
 -- ---- edges
 pub ends_push : (nodes : List TraceGraphNode) (edges : List TraceGraphEdge) (e : TraceGraphEdge) → HaveEnds nodes edges → Contains nodes e.from → Contains nodes e.to → HaveEnds nodes (edges ++ e ∷ [])
@@ -94,7 +62,7 @@ pub plain_push : (edges : List TraceGraphEdge) (e : TraceGraphEdge) → map plai
 plain_push edges e = map-append plain edges (e ∷ [])
 
 -- the places with an edge more
-places_push : (n : ℕ) (node : TraceGraphNode) (edges : List TraceGraphEdge) (e : TraceGraphEdge) →
+pub places_push : (n : ℕ) (node : TraceGraphNode) (edges : List TraceGraphEdge) (e : TraceGraphEdge) →
     places_from n node (edges ++ e ∷ []) ≡ places_from n node edges ++ cond (node_eq.ghosts.eq e.to node) ((n + length edges) ∷ []) []
 places_push n node [] e = ap (λ (k : ℕ). cond (node_eq.ghosts.eq e.to node) (k ∷ []) []) (omega arith)
 places_push n node (x ∷ edges) e =
@@ -105,34 +73,6 @@ places_push n node (x ∷ edges) e =
       | true ↦ ap (λ ks. n ∷ ks) later
       | false ↦ later
     ]
-
-pushed_listed : (old new : Option (Vec ℕ Global)) (x : ℕ) → PushesAt (λ (v : Vec ℕ Global). v.items ≡ []) (λ (v : Vec ℕ Global) (i : ℕ) (w : Vec ℕ Global). w.items ≡ v.items ++ i ∷ []) old x new → listed new ≡ listed old ++ x ∷ []
-pushed_listed None None x p = absurd p
-pushed_listed (Some o) None x p = absurd p
-pushed_listed (Some o) (Some n) x p = p
-pushed_listed None (Some n) x p = p.2 ∙ ap (λ xs. xs ++ x ∷ []) p.1
-
--- the places of the edges to each node, after the place of one more edge was pushed
-pub places_kept : (old new : List (TraceGraphNode × Vec ℕ Global)) (key : TraceGraphNode) (n : ℕ) (edges : List TraceGraphEdge) (e : TraceGraphEdge) → key ≡ e.to → n ≡ length edges →
-    PushesAt (λ (v : Vec ℕ Global). v.items ≡ []) (λ (v : Vec ℕ Global) (i : ℕ) (w : Vec ℕ Global). w.items ≡ v.items ++ i ∷ []) (collection_at node_ord.ghosts.cmp old key) n (collection_at node_ord.ghosts.cmp new key) →
-    ((q : TraceGraphNode) → is_eq (node_ord.ghosts.cmp key q) ≡ false → collection_at node_ord.ghosts.cmp new q ≡ collection_at node_ord.ghosts.cmp old q) →
-    ((q : TraceGraphNode) → listed (collection_at node_ord.ghosts.cmp old q) ≡ places_from 0 q edges) →
-    (q : TraceGraphNode) → listed (collection_at node_ord.ghosts.cmp new q) ≡ places_from 0 q (edges ++ e ∷ [])
-places_kept old new key n edges e is_key is_n pushed others kept q =
-    let total = node_ord.Laws.total-law in
-    let tied_is : node_eq.ghosts.eq e.to q ≡ is_eq (node_ord.ghosts.cmp key q) = node_ord.Laws.matches_eq-law e.to q ∙ ap (λ k. is_eq (node_ord.ghosts.cmp k q)) (sym is_key) in
-    let more : places_from 0 q (edges ++ e ∷ []) ≡ places_from 0 q edges ++ cond (is_eq (node_ord.ghosts.cmp key q)) (n ∷ []) [] =
-    places_push 0 q edges e ∙ ap (λ b. places_from 0 q edges ++ cond b ((0 + length edges) ∷ []) []) tied_is
-    ∙ ap (λ (k : ℕ). places_from 0 q edges ++ cond (is_eq (node_ord.ghosts.cmp key q)) (k ∷ []) []) (omega (arith, is_n)) in
-    ⊎_elim
-    (λ tied. let tie : node_ord.ghosts.cmp key q ≡ Equal = (Equal-is (node_ord.ghosts.cmp key q)).0 tied in
-    ap listed (tied_at total key q tie new) ∙ pushed_listed (collection_at node_ord.ghosts.cmp old key) (collection_at node_ord.ghosts.cmp new key) n pushed
-    ∙ ap (λ (o : Option (Vec ℕ Global)). listed o ++ n ∷ []) (sym (tied_at total key q tie old))
-    ∙ ap (λ ks. ks ++ n ∷ []) (kept q)
-    ∙ ap (λ b. places_from 0 q edges ++ cond b (n ∷ []) []) (sym tied) ∙ sym more)
-    (λ apart. ap listed (others q apart) ∙ kept q ∙ sym (append-nil (places_from 0 q edges))
-    ∙ ap (λ b. places_from 0 q edges ++ cond b (n ∷ []) []) (sym apart) ∙ sym more)
-    (cases_Bool (is_eq (node_ord.ghosts.cmp key q)))
 
 -- ---- places
 -- a place is that of an edge to the node
@@ -230,63 +170,6 @@ plain_place edges p c = let at = place (map plain edges) p c in plain_at edges a
 pub plain_there : (edges : List TraceGraphEdge) (k : ℕ) (e : TraceGraphEdge) → slice_get edges k ≡ Some e → Contains (map plain edges) (plain e)
 plain_there edges k e at = contains_map plain edges e (contains_at edges e k at)
 
--- ---- the parts of a graph, with the same entries
-pub kept_same : {old new : BTreeMap TraceGraphNode ℕ} {edges : List TraceGraphEdge} {incoming : List (TraceGraphNode × Vec ℕ Global)} → new.entries ≡ old.entries → IsKept old (by_number old.entries) edges incoming → IsKept new (by_number new.entries) edges incoming
-kept_same {old} {new} {edges} {incoming} same kept =
-    let lookup_same : (k : TraceGraphNode) → get node_ord.ghosts.cmp new k ≡ get node_ord.ghosts.cmp old k = λ k. ap (λ es. lookup (is_at (node_ord.ghosts.cmp k)) es) same in
-    let P : List (TraceGraphNode × ℕ) → Type 0 = λ es. (n : ℕ) → length es ≤ n → key_numbered n es ≡ None in
-    let Q : List (TraceGraphNode × ℕ) → Type 0 = λ es. length (by_number es) ≡ length es in
-    let R : List (TraceGraphNode × ℕ) → Type 0 = λ es. HaveEnds (by_number es) edges in
-    record {
-      numbered = without_pending {pending = []} (record {
-        found = λ k n h. ap (λ es. slice_get (by_number es) n) same ∙ kept.numbered.found k n (sym (lookup_same k) ∙ h);
-        numbered = λ k n h. lookup_same k ∙ kept.numbered.numbered k n (sym (ap (λ es. slice_get (by_number es) n) same) ∙ h);
-        outside = subst P (sym same) kept.numbered.outside;
-        whole = subst Q (sym same) kept.numbered.whole;
-        fewer = omega arith;
-        waits = let whole : length (by_number new.entries) ≡ length new.entries = subst Q (sym same) kept.numbered.whole in
-            sym (drop_all (length new.entries - length {A = TraceGraphNode} []) (by_number new.entries) (omega (arith, whole)));
-      });
-      places = kept.places;
-      differ = kept.differ;
-      ends = subst R (sym same) kept.ends;
-    }
-
-same_listed : (old new : Option (Vec ℕ Global)) → SameAt (λ (v w : Vec ℕ Global). w.items ≡ v.items) old new → listed new ≡ listed old
-same_listed None None h = refl
-same_listed None (Some w) h = absurd h
-same_listed (Some v) None h = absurd h
-same_listed (Some v) (Some w) h = h
-
--- the same edges to each node
-pub kept_refused : {numbers : BTreeMap TraceGraphNode ℕ} {nodes : List TraceGraphNode} {edges now : List TraceGraphEdge} {old new : List (TraceGraphNode × Vec ℕ Global)} (key : TraceGraphNode) → now ≡ edges →
-    ((q : TraceGraphNode) → is_eq (node_ord.ghosts.cmp key q) ≡ false → collection_at node_ord.ghosts.cmp new q ≡ collection_at node_ord.ghosts.cmp old q) →
-    SameAt (λ (v w : Vec ℕ Global). w.items ≡ v.items) (collection_at node_ord.ghosts.cmp old key) (collection_at node_ord.ghosts.cmp new key) → IsKept numbers nodes edges old → IsKept numbers nodes now new
-kept_refused {numbers} {nodes} {edges} {now} {old} {new} key same_edges others same kept =
-    let everywhere_same = everywhere node_ord.Laws.total-law (λ (v w : Vec ℕ Global). w.items ≡ v.items) (λ v. refl) old new key others same in
-    let P : List TraceGraphEdge → Type 0 = λ es. IsKept numbers nodes es new in
-    subst P (sym same_edges) (record {
-      numbered = kept.numbered;
-      places = λ q. same_listed (collection_at node_ord.ghosts.cmp old q) (collection_at node_ord.ghosts.cmp new q) (everywhere_same q) ∙ kept.places q;
-      differ = kept.differ;
-      ends = kept.ends;
-    })
-
--- a graph with an edge more
-pub kept_pushed : {numbers : BTreeMap TraceGraphNode ℕ} {nodes : List TraceGraphNode} {edges now : List TraceGraphEdge} {old new : List (TraceGraphNode × Vec ℕ Global)} (key : TraceGraphNode) (n : ℕ) (e : TraceGraphEdge) → key ≡ e.to → n ≡ length edges → now ≡ edges ++ e ∷ [] →
-    PushesAt (λ (v : Vec ℕ Global). v.items ≡ []) (λ (v : Vec ℕ Global) (i : ℕ) (w : Vec ℕ Global). w.items ≡ v.items ++ i ∷ []) (collection_at node_ord.ghosts.cmp old key) n (collection_at node_ord.ghosts.cmp new key) →
-    ((q : TraceGraphNode) → is_eq (node_ord.ghosts.cmp key q) ≡ false → collection_at node_ord.ghosts.cmp new q ≡ collection_at node_ord.ghosts.cmp old q) →
-    Contains nodes e.from → Contains nodes e.to → ¬ Contains (map plain edges) (plain e) → IsKept numbers nodes edges old → IsKept numbers nodes now new
-kept_pushed {numbers} {nodes} {edges} {now} {old} {new} key n e is_key is_n is_now pushed others from to fresh kept =
-    let P : List TraceGraphEdge → Type 0 = λ es. IsKept numbers nodes es new in
-    let D : List PlainEdge → Type 0 = AllDiffer in
-    subst P (sym is_now) (record {
-      numbered = kept.numbered;
-      places = places_kept old new key n edges e is_key is_n pushed others kept.places;
-      differ = subst D (sym (plain_push edges e)) (differ_push (map plain edges) (plain e) kept.differ fresh);
-      ends = ends_push nodes edges e kept.ends from to;
-    })
-
 -- what follows from a clause of a call that succeeded
 pub on_ok : {A E : Type 0} (r : Result A E) {P Q : Type 0} → OnOk r P → (P → Q) → OnOk r Q
 on_ok (Ok a) h f = f h
@@ -329,9 +212,9 @@ adds_edge old middle new e same grown out = inr (λ c. out (let P : List TraceGr
 pub has_edge_already : (old new : List TraceGraphEdge) (e : TraceGraphEdge) → new ≡ old → Contains (map plain new) (plain e) → AddsEdge old new e
 has_edge_already old new e same c = inl (let P : List TraceGraphEdge → Type 0 = λ es. Contains (map plain es) (plain e) in subst P same c, same)
 
--- a node that got its number is among the nodes
-pub numbered_there : (nodes more : List TraceGraphNode) (n : ℕ) (a node : TraceGraphNode) → a ≡ node → slice_get nodes n ≡ Some a → KeepPlaces nodes more → Contains more node
-numbered_there nodes more n a node is at stay = contains_at more node n (stay n node (at ∙ ap (λ x. Some x) is))
+-- a node that got its number has it among more nodes
+pub numbered_still : (nodes more : List TraceGraphNode) (n : ℕ) (a node : TraceGraphNode) → a ≡ node → slice_get nodes n ≡ Some a → KeepPlaces nodes more → slice_get more n ≡ Some node
+numbered_still nodes more n a node is at stay = stay n node (at ∙ ap (λ x. Some x) is)
 
 -- the edges of a graph that did not change
 pub graph_same : (old new : Graph) (edges : List TraceGraphEdge) → new.nodes ≡ old.nodes → new.edges ≡ edges → edges ≡ old.edges → IsGraph old → IsGraph new

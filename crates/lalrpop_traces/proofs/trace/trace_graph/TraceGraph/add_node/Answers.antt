@@ -1,12 +1,13 @@
-use Rattle.std.proofs.Common.{◌≡◌, List, [], ◌∷◌, sym, ap, ◌∙◌, subst}
-use Rattle.std.specs.Prelude.{slice_get, Some}
+use Rattle.std.proofs.Common.{◌≡◌, List, [], ◌∷◌, ◌++◌, cond, sym, ap, ◌∙◌, subst}
+use Rattle.std.specs.Prelude.{is_ok, slice_get, Some}
 use Rattle.lalrpop_base.specs.Words.{AddsOnce, by_number}
 use Rattle.lalrpop_collections.proofs.theory.states.KernelLemmas.{IsNext, adds_known, adds_fresh, at_number, list_grows}
 use Rattle.lalrpop_collections.proofs.theory.lists.Places.{slice_get-longer}
 use Rattle.lalrpop_traces.specs.Words.{Graph, IsGraph, IsKept}
 use Rattle.lalrpop_traces.specs.contracts.trace.node.TraceGraphNodeOrd.TheImpl as node_ord
 use Rattle.lalrpop_traces.specs.declared.trace.node.TraceGraphNode.{TraceGraphNode}
-use Rattle.lalrpop_traces.proofs.theory.traces.TraceGraphs.{kept_graph, kept_more, kept_same}
+use Rattle.lalrpop_traces.proofs.theory.traces.TraceGraphs.{kept_graph}
+use Rattle.lalrpop_traces.proofs.theory.traces.KeptGraphs.{kept_more, kept_same}
 use Rattle.lalrpop_traces.proofs.trace.trace_graph.TraceGraph.add_node.Goals as goal
 
 pub returns-in-Some-clause-graph : goal.returns-in-Some-clause-graph
@@ -22,21 +23,25 @@ returns-in-Some-clause-numbered c =
     let P : Graph → Type 0 = λ g. slice_get g.nodes c.in-Some.index.now ≡ Some c.args.node in
     subst P c.self.view_is (c.self.invariant.numbered.found c.args.node c.in-Some.index.now (sym c.in-Some.ensures.value))
 
-refused : (c : goal.After-from_residual) → IsKept c.insert.new.self (by_number c.insert.new.self.entries) c.self.inside.edges.items c.self.inside.incoming
-refused c = kept_same c.in_err-insert.ensures.err c.self.invariant
+pub returns-in_err-reserve-clause-graph : goal.returns-in_err-reserve-clause-graph
+returns-in_err-reserve-clause-graph c = kept_graph c.self.invariant
 
-pub invariant_of-self : goal.invariant_of-self
-invariant_of-self c = refused c
+pub invariant_of-self-in_err-insert : goal.invariant_of-self-in_err-insert
+invariant_of-self-in_err-insert c = kept_same c.in_err-insert.ensures.err c.in_ok-reserve.ensures.items c.self.invariant
 
 pub returns-in_err-insert-clause-graph : goal.returns-in_err-insert-clause-graph
-returns-in_err-insert-clause-graph c = kept_graph (refused c)
+returns-in_err-insert-clause-graph c = kept_graph (kept_same {new = c.insert.new.self} c.in_err-insert.ensures.err c.in_ok-reserve.ensures.items c.self.invariant)
 
 -- the node got the next number
-step : (c : goal.In_ok-insert) → IsNext node_ord.ghosts.cmp c.self.inside.indices c.insert.new.self c.args.node c.len-index.result
+step : (c : goal.After-unwrap) → IsNext node_ord.ghosts.cmp c.self.inside.indices c.insert.new.self c.args.node c.len-index.result
 step c = record { next = c.len-index.ensures.len; absent = sym c.in_default.ensures.value; made = c.in_ok-insert.ensures.entries; updates = c.in_ok-insert.ensures.updates }
 
-grown : (c : goal.In_ok-insert) → IsKept c.insert.new.self (by_number c.insert.new.self.entries) c.self.inside.edges.items c.self.inside.incoming
-grown c = kept_more c.self.invariant (step c)
+-- an empty list was added for it
+listed : (c : goal.After-unwrap) → c.push.new.self.items ≡ c.self.inside.incoming.items ++ c.new.result ∷ []
+listed c = c.push.ensures.items ∙ ap (λ r. cond (is_ok r) (c.reserve.new.self.items ++ c.new.result ∷ []) c.reserve.new.self.items) c.unwrap.ensures ∙ ap (λ xs. xs ++ c.new.result ∷ []) c.in_ok-reserve.ensures.items
+
+grown : (c : goal.After-unwrap) → IsKept c.insert.new.self (by_number c.insert.new.self.entries) c.self.inside.edges.items c.self.inside.sources.items c.push.new.self.items
+grown c = kept_more c.new.result c.new.ensures.items (listed c) c.self.invariant (step c)
 
 pub invariant_of-self-2 : goal.invariant_of-self-2
 invariant_of-self-2 c = grown c

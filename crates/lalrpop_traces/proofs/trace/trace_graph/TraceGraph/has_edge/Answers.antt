@@ -13,42 +13,42 @@ found [] i l = absurd (omega arith)
 found (x ∷ xs) zero l = refl
 found (x ∷ xs) (suc i) l = found xs i (omega arith)
 
-pub returns-then-is_edge : goal.returns-then-is_edge
-returns-then-is_edge c =
+pub returns-then-is_edge_of : goal.returns-then-is_edge_of
+returns-then-is_edge_of c = λ from to at_from at_to.
     let edges = c.args.self.now.edges in
-    let numbers = c.numbers_to-number-items.result.now in
+    let numbers = c.numbers_at-number-items.result.now in
     let i = c.loop-number.number-index in
     let p = get_or numbers i 0 in
-    let at : slice_get (numbers_to c.args.self.now c.args.to.now) i ≡ Some p = ap (λ ns. slice_get ns i) (sym c.numbers_to-number-items.ensures) ∙ found numbers i c.loop-number-test.true in
-    let there = place_sound 0 c.args.to.now edges i p at in
+    let at : slice_get (numbers_to c.args.self.now to) i ≡ Some p = ap (λ ns. slice_get ns i) (sym (c.numbers_at-number-items.ensures to at_to)) ∙ found numbers i c.loop-number-test.true in
+    let there = place_sound 0 to edges i p at in
     let number = there.2 in
     let edge : slice_get edges p ≡ Some there.1 = ap (λ (k : ℕ). slice_get edges k) (omega arith) ∙ there.3 in
-    let is = (c.if-is_edge.ensures.there there.1 edge).0 refl in
+    let is = (c.if-is_edge_of.ensures from there.1 at_from edge).0 refl in
     let P : PlainEdge → Type 0 = Contains (map plain edges) in
-    (λ h. subst P (from_plain c.args.from.now c.args.to.now c.args.labels.now there.1 there.4 is) (plain_there edges p there.1 edge), λ h. refl)
+    (λ h. subst P (from_plain from to c.args.labels.now there.1 there.4 is) (plain_there edges p there.1 edge), λ h. refl)
 
 pub returns : goal.returns
-returns c =
+returns c = λ from to at_from at_to.
     let edges = c.args.self.now.edges in
-    let numbers = c.numbers_to-number-items.result.now in (
+    let numbers = c.numbers_at-number-items.result.now in (
       λ h. absurd (true≢false (sym h)),
       λ there.
-          let at = plain_place edges (plain_edge c.args.from.now c.args.to.now c.args.labels.now) there in
-          let place = place_complete 0 c.args.to.now edges at.0 at.1 at.2 (ap (λ (p : PlainEdge). p.to) at.3) in
-          let here : slice_get numbers place.0 ≡ Some at.0 = ap (λ ns. slice_get ns place.0) c.numbers_to-number-items.ensures ∙ place.1 ∙ ap (λ (n : ℕ). Some n) (omega arith) in
+          let at = plain_place edges (plain_edge from to c.args.labels.now) there in
+          let place = place_complete 0 to edges at.0 at.1 at.2 (ap (λ (p : PlainEdge). p.to) at.3) in
+          let here : slice_get numbers place.0 ≡ Some at.0 = ap (λ ns. slice_get ns place.0) (c.numbers_at-number-items.ensures to at_to) ∙ place.1 ∙ ap (λ (n : ℕ). Some n) (omega arith) in
           let within = slice_get_within numbers place.0 at.0 here in
-          absurd (c.loop-number.invariant place.0 at.0 at.1 (omega (arith, within, c.loop-number-test.false)) here at.2 (plain_from c.args.from.now c.args.to.now c.args.labels.now at.1 at.3)),
+          absurd (c.loop-number.invariant from place.0 at.0 at.1 at_from (omega (arith, within, c.loop-number-test.false)) here at.2 (plain_from from to c.args.labels.now at.1 at.3)),
     )
 
 pub loop-number-preserved : goal.loop-number-preserved
-loop-number-preserved c = λ j p e l at_j at_p is.
+loop-number-preserved c = λ node j p e at_node l at_j at_p is.
     let edges = c.args.self.now.edges in
-    let numbers = c.numbers_to-number-items.result.now in
+    let numbers = c.numbers_at-number-items.result.now in
     let i = c.loop-number.number-index in
     ⊎_elim
-    (λ before. c.loop-number.invariant j p e before at_j at_p is)
+    (λ before. c.loop-number.invariant node j p e at_node before at_j at_p is)
     (λ here.
     let same : j ≡ i = omega (arith, l, here) in
     let number : p ≡ get_or numbers i 0 = same_some p (get_or numbers i 0) (sym at_j ∙ ap (λ (k : ℕ). slice_get numbers k) same ∙ found numbers i c.loop-number-test.true) in
-    absurd (true≢false (sym ((c.if-is_edge.ensures.there e (ap (λ (k : ℕ). slice_get edges k) (sym number) ∙ at_p)).1 is))))
+    absurd (true≢false (sym ((c.if-is_edge_of.ensures node e at_node (ap (λ (k : ℕ). slice_get edges k) (sym number) ∙ at_p)).1 is))))
     (cases_lt j i)
