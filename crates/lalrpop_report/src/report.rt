@@ -19,10 +19,10 @@ pub use error::ReportError;
 use lalrpop_base::lr1_core::state::{Lr1Result, LrResult};
 use lalrpop_base::repr::terminals::TerminalSet;
 pub use printer::{HasDisplayLen, LookaheadPrinter};
-use sink::put_all;
+use sink::put_pieces;
 pub use sink::{Counted, Sink};
 use std::alloc::Global;
-pub use whole::report_text;
+pub use whole::{report_pieces, report_text};
 
 /// Writes the report of the result of a construction. The whole text is made before its first byte
 /// is written. The error says why the report was not written whole.
@@ -70,8 +70,8 @@ fn report<W: Sink, L: LookaheadPrinter<String>>(
     ensures untouched { IfErr result (λ e. IfNothingOffered e (out.new ≡ out.old)) }
     ensures tables { IfErr result (TellsOfText (report_text L.meaning terminals.now outcome.now)) }
 {
-    let text = report_text(alloc, terminals, outcome)?;
-    put_all(out, text.as_bytes())
+    let text = report_pieces(alloc, terminals, outcome)?;
+    put_pieces(out, &text)
 }
 
 /// Writes reports to a sink.

@@ -5,5 +5,5 @@ use Rattle.program_answers.specs.declared.answer.Shown.{Shown}
 -- a status, a text and a remark are what is shown
 pub record IsOutput (status : ℕ) (text remark : List ℕ) (s : Shown) : Type 0 where
   pub ended : s.status ≡ status
-  pub whole : string_bytes s.text ≡ text
+  pub whole : s.text ≡ text
   pub remarked : string_bytes s.remark ≡ remark

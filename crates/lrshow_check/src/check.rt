@@ -85,11 +85,8 @@ fn written(
     ensures { IfOk result (IsOutput (findings_status (map finding_view found.now))
         (findings_output is_json name.now (map finding_view found.now)) []) }
 {
-    Ok(Shown {
-        status: findings_status(found),
-        text: findings_output(alloc, is_json, name, found)?,
-        remark: String::new(alloc),
-    })
+    let text = findings_output(alloc, is_json, name, found)?;
+    Shown::of(alloc, findings_status(found), text, String::new(alloc))
 }
 
 // The result of a check of a text without errors.

@@ -1,13 +1,15 @@
 //! The program `lrshow`, over any reader and writers.
-ghost use Rattle.std.specs.Prelude.{◌≡◌, map, option_map, string_bytes};
+ghost use Rattle.std.specs.Prelude.{◌≡◌, ℕ, List, [], IfOk, map, option_map, string_bytes};
 ghost use Rattle.program_answers.specs.Written.{IsResultWritten};
 ghost use Rattle.program_answers.specs.declared.answer.Answer.{Answer};
 ghost use Rattle.lrshow_run.specs.Answers.{IsShowAnswer, IsTextAnswer};
 ghost use Rattle.lrshow_check.specs.Check.{IsCheckAnswer};
-ghost use Rattle.lrshow_arguments.specs.Help.{usage};
+ghost use Rattle.lrshow_arguments.specs.Help.{usage, IsText};
+ghost use Rattle.lrshow_check.specs.Output.{IsOutput};
 ghost use Rattle.lrshow_arguments.specs.Words.{check_view, text_view};
 
 use crate::request::ShowRequest;
+use lalrpop_base::memory::OutOfMemory;
 use lalrpop_tables::build::Method;
 use lrshow_arguments::help::{USAGE, text_of};
 use lrshow_arguments::words::{Check, Text, check_of, request_of, text_for};
@@ -85,12 +87,17 @@ fn checked<R: Read + Drop>(
 fn text_answer(alloc: Global, asked: Text) -> Answer
     ensures { IsTextAnswer (text_view asked) result }
 {
-    match text_of(alloc, asked) {
-        Ok(text) => Answer::Output(Shown {
-            status: 0,
-            text,
-            remark: String::new(alloc),
-        }),
+    match text_shown(alloc, asked) {
+        Ok(shown) => Answer::Output(shown),
         Err(_) => Answer::Memory,
     }
+}
+
+// What is shown for a text that needs no file.
+fn text_shown(alloc: Global, asked: Text) -> Result<Shown, OutOfMemory>
+    ensures { IfOk result (λ s. (text : List ℕ) × IsText (text_view asked) text
+        × IsOutput 0 text [] s) }
+{
+    let text = text_of(alloc, asked)?;
+    Shown::of(alloc, 0, text, String::new(alloc))
 }

@@ -155,11 +155,7 @@ fn data<'grammar>(
 fn whole(alloc: Global, status: u8, text: String) -> Result<Shown, OutOfMemory>
     ensures { IfOk result (IsOutput status (string_bytes text) []) }
 {
-    Ok(Shown {
-        status,
-        text,
-        remark: String::new(alloc),
-    })
+    Shown::of(alloc, status, text, String::new(alloc))
 }
 
 // What is shown for JSON.
@@ -251,18 +247,14 @@ fn whole_graph<'grammar>(
 {
     let remark = how_to_cut(alloc, edge_count(&built.states))?;
     let text = graph(alloc, grammar, start, built, &ShownStates::All)?;
-    Ok(drawn(built.status, text, remark))
+    drawn(alloc, built.status, text, remark)
 }
 
 // An exit status, a text and a remark.
-fn drawn(status: u8, text: String, remark: String) -> Shown
-    ensures { IsOutput status (string_bytes text) (string_bytes remark) result }
+fn drawn(alloc: Global, status: u8, text: String, remark: String) -> Result<Shown, OutOfMemory>
+    ensures { IfOk result (IsOutput status (string_bytes text) (string_bytes remark)) }
 {
-    Shown {
-        status,
-        text,
-        remark,
-    }
+    Shown::of(alloc, status, text, remark)
 }
 
 // What is shown for the graph of the states near one, or that there is no such state.
@@ -314,7 +306,7 @@ fn graph_to_conflicts<'grammar>(
     let chosen = ShownStates::Only(states_to_conflicts(alloc, &built.states, &built.conflicts)?);
     let remark = no_conflicts(alloc, built.conflicts.len())?;
     let text = graph(alloc, grammar, start, built, &chosen)?;
-    Ok(drawn(built.status, text, remark))
+    drawn(alloc, built.status, text, remark)
 }
 
 // The remark on a graph of the states on paths to so many conflicts, if there are none.
@@ -359,11 +351,7 @@ fn no_state(alloc: Global, number: usize) -> Result<Shown, OutOfMemory>
 fn wrong_request(alloc: Global, remark: String) -> Result<Shown, OutOfMemory>
     ensures { IfOk result (IsOutput 2 [] (string_bytes remark)) }
 {
-    Ok(Shown {
-        status: 2,
-        text: String::new(alloc),
-        remark,
-    })
+    Shown::of(alloc, 2, String::new(alloc), remark)
 }
 
 // The remark on how to cut a graph with so many edges. It is empty for at most `MANY` edges.

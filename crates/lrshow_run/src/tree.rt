@@ -104,11 +104,8 @@ fn copies(alloc: Global, tokens: &[TerminalString]) -> Result<Vec<TerminalString
 fn tree_shown(alloc: Global, tree: &ParseTree, is_graph: bool) -> Result<Shown, OutOfMemory>
     ensures { IfOk result (IsOutput 0 (drawing is_graph (tree_of tree.now)) []) }
 {
-    Ok(Shown {
-        status: 0,
-        text: drawing(alloc, tree, is_graph)?,
-        remark: String::new(alloc),
-    })
+    let text = drawing(alloc, tree, is_graph)?;
+    Shown::of(alloc, 0, text, String::new(alloc))
 }
 
 // A tree as a graph, or as lines.
@@ -155,9 +152,5 @@ fn refused(alloc: Global, message: &str) -> Result<Shown, OutOfMemory>
 fn remarked(alloc: Global, remark: String) -> Result<Shown, OutOfMemory>
     ensures { IfOk result (IsOutput 1 [] (string_bytes remark)) }
 {
-    Ok(Shown {
-        status: 1,
-        text: String::new(alloc),
-        remark,
-    })
+    Shown::of(alloc, 1, String::new(alloc), remark)
 }

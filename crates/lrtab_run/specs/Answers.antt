@@ -12,7 +12,7 @@ use Rattle.lrtab_run.specs.Words.{Asked}
 
 -- what `lrtab` shows of a grammar for a request: a status and a text, without a remark
 pub record IsShownWhole (method : Method) (g : Grammar) (request : Asked) (s : Shown) : Type 0 where
-  pub shown : IsShown method g request s.status (string_bytes s.text)
+  pub shown : IsShown method g request s.status s.text
   pub plain : string_bytes s.remark ≡ []
 
 -- a result is that of `lrtab` for its arguments: `Usage` if they are no request, and else a result

@@ -17,10 +17,11 @@ use lalrpop_base::repr::NonterminalString;
 use lalrpop_base::repr::grammar::Grammar;
 use lalrpop_lr1::headline::by_tables::parse_by_tables;
 use lalrpop_lr1::interpret::{InterpretError, ParseTree};
-use lalrpop_lr1::report::report_text;
+use lalrpop_lr1::report::report_pieces;
 use lalrpop_tables::build::{Method, Options, TablesOrCount};
 use lalrpop_tables::lr1::{build_states, build_states_or_count};
 use std::alloc::Global;
+use text_pieces::TextPieces;
 
 impl Ask for Request<'_> {
     ghost IsShown = { λ request method g s. IsShownWhole method g (request_view request) s };
@@ -46,11 +47,11 @@ fn shown(
     request: &Request<'_>,
     method: Method,
     grammar: &Grammar,
-) -> Result<(u8, String), OutOfMemory>
+) -> Result<(u8, TextPieces), OutOfMemory>
     requires well_formed { IsWellFormed grammar.now }
     requires canonical { grammar.now.algorithm.lalr ≡ false }
     ensures { IfOk result
-        (λ o. IsShown method grammar.now (request_view request.now) o.0 (string_bytes o.1)) }
+        (λ o. IsShown method grammar.now (request_view request.now) o.0 o.1) }
 {
     let start = name_of(alloc, request.start)?;
     let options = Options {
@@ -58,10 +59,25 @@ fn shown(
         ..Options::default()
     };
     match request.task {
-        Task::Parse(limit, tokens) => parse(alloc, limit, tokens, start, &options, grammar),
+        Task::Parse(limit, tokens) => {
+            let parsed = parse(alloc, limit, tokens, start, &options, grammar)?;
+            in_one_piece(alloc, parsed)
+        }
         Task::Report => report(alloc, start, &options, grammar),
-        Task::Explain => explain(alloc, start, &options, grammar),
+        Task::Explain => {
+            let explained = explain(alloc, start, &options, grammar)?;
+            in_one_piece(alloc, explained)
+        }
     }
+}
+
+// An exit status, and a text in one piece.
+fn in_one_piece(alloc: Global, shown: (u8, String)) -> Result<(u8, TextPieces), OutOfMemory>
+    ensures status { IfOk result (λ o. o.0 ≡ shown.0) }
+    ensures text { IfOk result (λ o. o.1 ≡ string_bytes shown.1) }
+{
+    let (status, text) = shown;
+    Ok((status, TextPieces::of(alloc, text)?))
 }
 
 // The exit status and the text of a parse by the tables of a grammar. If it has no tables, the text
@@ -95,16 +111,16 @@ fn report(
     start: NonterminalString,
     options: &Options,
     grammar: &Grammar,
-) -> Result<(u8, String), OutOfMemory>
+) -> Result<(u8, TextPieces), OutOfMemory>
     requires well_formed { IsWellFormed grammar.now }
     requires canonical { grammar.now.algorithm.lalr ≡ false }
     requires whole { options.now.stop_after ≡ 0 }
     ensures { IfOk result (λ o. IsTaskShown options.now.method options.now.max_copies
-        grammar.now start Report o.0 (string_bytes o.1)) }
+        grammar.now start Report o.0 o.1) }
 {
     let outcome = build_states(alloc, grammar, start, options);
     let status = status_of(&outcome);
-    match report_text(alloc, &grammar.terminals, &outcome) {
+    match report_pieces(alloc, &grammar.terminals, &outcome) {
         Ok(text) => Ok((status, text)),
         Err(_) => Err(OutOfMemory),
     }

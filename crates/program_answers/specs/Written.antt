@@ -27,7 +27,7 @@ pub record IsPartlyWritten (text : List ℕ) (out_old out_new err_old err_new : 
 
 -- a result has an exit status, and went to the two streams; each program has its own usage text
 abbrev pub IsResultWritten : List ℕ → Answer → ℕ → Option (List ℕ) → Option (List ℕ) → Option (List ℕ) → Option (List ℕ) → Type 0
-IsResultWritten usage (Output s) result o p e f = ((result ≡ s.status) × IsWritten (string_bytes s.text) (string_bytes s.remark) o p e f) ⊎ ((result ≡ 2) × IsPartlyWritten (string_bytes s.text) o p e f)
+IsResultWritten usage (Output s) result o p e f = ((result ≡ s.status) × IsWritten s.text (string_bytes s.remark) o p e f) ⊎ ((result ≡ 2) × IsPartlyWritten s.text o p e f)
 IsResultWritten usage (Fault text) result o p e f = (result ≡ 2) × IsComplaint (string_bytes text) o p e f
 IsResultWritten usage Usage result o p e f = (result ≡ 2) × IsComplaint usage o p e f
 IsResultWritten usage TooManyActions result o p e f = (result ≡ 2) × IsComplaint (line (codes "too many actions")) o p e f

@@ -16,6 +16,7 @@ use lalrpop_construction::options::Method;
 use lalrpop_inline::inline::inline;
 use std::alloc::Global;
 use std::io::{ErrorKind, Read};
+use text_pieces::TextPieces;
 
 /// What is shown of a grammar.
 #[derive(Drop)]
@@ -23,10 +24,25 @@ pub struct Shown {
     /// The exit status.
     pub status: u8,
     /// The text for standard output.
-    pub text: String,
+    pub text: TextPieces,
     /// The text for standard error, which is written after the output. It is empty if there is
     /// nothing to remark.
     pub remark: String,
+}
+
+impl Shown {
+    /// What is shown with a text in one piece. `OutOfMemory` if an allocation fails.
+    pub fn of(alloc: Global, status: u8, text: String, remark: String) -> Result<Shown, OutOfMemory>
+        ensures status { IfOk result (λ shown. shown.status ≡ status) }
+        ensures text { IfOk result (λ shown. shown.text ≡ string_bytes text) }
+        ensures remark { IfOk result (λ shown. shown.remark ≡ remark) }
+    {
+        Ok(Shown {
+            status,
+            text: TextPieces::of(alloc, text)?,
+            remark,
+        })
+    }
 }
 
 /// The result of a program, which decides its outputs and its exit status.

@@ -4,7 +4,7 @@ ghost use Rattle.program_answers.specs.Written.{IsResultWritten, IsWritten, IsPa
 ghost use Rattle.program_answers.specs.Output.{AppendsBeginning};
 
 use crate::answer::{Answer, Shown};
-use crate::output::write_whole;
+use crate::output::{write_pieces, write_whole};
 use std::io::Write;
 
 /// Writes a result to `out` and `err`, and returns the exit status: 2 for a faulty input or output,
@@ -25,12 +25,12 @@ pub fn tell<O: Write, E: Write>(answer: &Answer, usage: &str, out: &mut O, err: 
 // Writes what is shown, and returns the exit status: 2 if `out` does not take the whole text.
 fn tell_shown<O: Write, E: Write>(shown: &Shown, out: &mut O, err: &mut E) -> u8
     ensures { ((result ≡ shown.now.status)
-        × IsWritten (string_bytes shown.now.text) (string_bytes shown.now.remark)
+        × IsWritten shown.now.text (string_bytes shown.now.remark)
         (O.contents out.old) (O.contents out.new) (E.contents err.old) (E.contents err.new))
-        ⊎ ((result ≡ 2) × IsPartlyWritten (string_bytes shown.now.text)
+        ⊎ ((result ≡ 2) × IsPartlyWritten shown.now.text
         (O.contents out.old) (O.contents out.new) (E.contents err.old) (E.contents err.new)) }
 {
-    if !write_whole(out, shown.text.as_bytes()) {
+    if !write_pieces(out, &shown.text) {
         return complain(err, "cannot write\n", 2);
     }
     if shown.remark.is_empty() {

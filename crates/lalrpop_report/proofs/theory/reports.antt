@@ -1,5 +1,6 @@
 -- The text of a report.
 pub mod KeptLines
+pub mod Puts
 pub mod ReportNumbers
 pub mod ReportPadding
 pub mod ReportPlaces

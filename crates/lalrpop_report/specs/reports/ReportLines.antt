@@ -52,8 +52,8 @@ module _ {L : Type 0} (meaning : L → Bits) (terminals : List TerminalString) w
   lookahead_line lookahead = tokens_line (tokens_in terminals (meaning lookahead))
 
   -- each entry has a lookahead and its line
-  abbrev pub AreLines : {A : Type 0} → List (L × String A) → Type 0
-  AreLines {A} entries = (n : ℕ) (e : L × String A) → slice_get entries n ≡ Some e → string_bytes e.1 ≡ lookahead_line e.0
+  abbrev pub AreLines : List (L × List ℕ) → Type 0
+  AreLines entries = (n : ℕ) (e : L × List ℕ) → slice_get entries n ≡ Some e → e.1 ≡ lookahead_line e.0
 
   -- an empty line and the lines of an item: its nonterminal padded to a width, the symbols before
   -- its dot, the dot, the symbols after it, and its lookahead

@@ -10,6 +10,7 @@ use lalrpop_base::lr1_core::state::{Action, Conflict, StateIndex};
 use lalrpop_base::memory::OutOfMemory;
 use lalrpop_base::repr::{Production, TerminalString};
 use std::alloc::Global;
+use text_pieces::TextPieces;
 
 // Appends the lines of a conflict between a reduction and a shift.
 fn push_shift_action(
@@ -75,28 +76,27 @@ fn push_actions(
 // Appends the block of a conflict.
 fn push_conflict<L: LookaheadPrinter<String>>(
     alloc: Global,
-    text: &mut String,
+    text: &mut TextPieces,
     conflict: &Conflict<'_, L>,
     lines: &LookaheadLines<'_, L>,
 ) -> Result<(), OutOfMemory>
-    ensures { OnOk result (string_bytes text.new ≡ string_bytes text.old ++ conflict_block L.meaning
+    ensures { OnOk result (text.new ≡ text.old ++ conflict_block L.meaning
         lines.now conflict.now) }
 {
-    text.push_str("\n")?;
-    push_actions(alloc, text, conflict.production, &conflict.action)?;
-    lines.push_line(text, &conflict.lookahead)?;
-    Ok(())
+    let mut own = String::from_str(alloc, "\n")?;
+    push_actions(alloc, &mut own, conflict.production, &conflict.action)?;
+    lines.push_line(alloc, text, own, &conflict.lookahead)
 }
 
 // Appends the block of the conflict at a place, if there is one.
 fn push_conflict_at<L: LookaheadPrinter<String>>(
     alloc: Global,
-    text: &mut String,
+    text: &mut TextPieces,
     conflicts: &[Conflict<'_, L>],
     place: usize,
     lines: &LookaheadLines<'_, L>,
 ) -> Result<(), OutOfMemory>
-    ensures { OnOk result (string_bytes text.new ≡ string_bytes text.old ++ block_at L.meaning
+    ensures { OnOk result (text.new ≡ text.old ++ block_at L.meaning
         lines.now (slice_get conflicts.now place)) }
 {
     if place < conflicts.len() {
@@ -108,12 +108,12 @@ fn push_conflict_at<L: LookaheadPrinter<String>>(
 /// Appends the blocks of the conflicts at places.
 pub(crate) fn push_conflicts_at<L: LookaheadPrinter<String>>(
     alloc: Global,
-    text: &mut String,
+    text: &mut TextPieces,
     conflicts: &[Conflict<'_, L>],
     places: &[usize],
     lines: &LookaheadLines<'_, L>,
 ) -> Result<(), OutOfMemory>
-    ensures { OnOk result (string_bytes text.new ≡ string_bytes text.old ++ flat_map
+    ensures { OnOk result (text.new ≡ text.old ++ flat_map
         (λ place. block_at L.meaning lines.now (slice_get conflicts.now place)) places.now) }
 {
     for place in places {

@@ -11,6 +11,7 @@ use lalrpop_base::memory::OutOfMemory;
 use lalrpop_base::repr::terminals::TerminalSet;
 use lalrpop_base::repr::{NonterminalString, Production, Symbol, TerminalString};
 use std::alloc::Global;
+use text_pieces::TextPieces;
 
 /// Appends a text, and then spaces until there are `width` characters. A longer text is not cut.
 pub(crate) fn push_filled(text: &mut String, shown: &str, width: usize) -> Result<(), OutOfMemory>
@@ -64,38 +65,40 @@ pub(crate) fn push_lookahead<L: LookaheadPrinter<String>>(
 
 /// Appends an empty line and the lines of an item. Its nonterminal is padded to `width` characters.
 pub(crate) fn push_item<L: LookaheadPrinter<String>>(
-    text: &mut String,
+    alloc: Global,
+    text: &mut TextPieces,
     item: &Item<'_, L>,
     width: usize,
     lines: &LookaheadLines<'_, L>,
 ) -> Result<(), OutOfMemory>
-    ensures { OnOk result (string_bytes text.new ≡ string_bytes text.old ++ item_lines L.meaning
-        lines.now width item.now) }
+    ensures { OnOk result
+        (text.new ≡ text.old ++ item_lines L.meaning lines.now width item.now) }
 {
-    text.push_str("\n    ")?;
-    push_filled(text, item.production.nonterminal.text.as_str(), width)?;
-    text.push_str(" ->")?;
-    push_symbols(text, item.prefix())?;
-    text.push_str(" .")?;
-    push_symbols(text, item.rest())?;
-    text.push_str("\n")?;
-    lines.push_line(text, &item.lookahead)?;
-    Ok(())
+    let mut own = String::new(alloc);
+    own.push_str("\n    ")?;
+    push_filled(&mut own, item.production.nonterminal.text.as_str(), width)?;
+    own.push_str(" ->")?;
+    push_symbols(&mut own, item.prefix())?;
+    own.push_str(" .")?;
+    push_symbols(&mut own, item.rest())?;
+    own.push_str("\n")?;
+    lines.push_line(alloc, text, own, &item.lookahead)
 }
 
 /// Appends an empty line and the lines of a reduction.
 pub(crate) fn push_reduction<L: LookaheadPrinter<String>>(
-    text: &mut String,
+    alloc: Global,
+    text: &mut TextPieces,
     reduction: &(L, &Production),
     lines: &LookaheadLines<'_, L>,
 ) -> Result<(), OutOfMemory>
-    ensures { OnOk result (string_bytes text.new ≡ string_bytes text.old ++ reduction_lines
-        L.meaning lines.now reduction.now) }
+    ensures { OnOk result
+        (text.new ≡ text.old ++ reduction_lines L.meaning lines.now reduction.now) }
 {
-    text.push_str("\n    reduction ")?;
-    push_production(text, reduction.1)?;
-    lines.push_line(text, &reduction.0)?;
-    Ok(())
+    let mut own = String::new(alloc);
+    own.push_str("\n    reduction ")?;
+    push_production(&mut own, reduction.1)?;
+    lines.push_line(alloc, text, own, &reduction.0)
 }
 
 /// Appends the line of a shift. Its terminal is padded to `width` characters.

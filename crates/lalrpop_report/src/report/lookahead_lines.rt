@@ -7,16 +7,18 @@ use super::printer::LookaheadPrinter;
 use lalrpop_base::lr1_core::state::{Conflict, State};
 use lalrpop_base::memory::OutOfMemory;
 use lalrpop_base::repr::terminals::TerminalSet;
+use lalrpop_base::text::Text;
 use std::alloc::Global;
 use std::collections::BTreeMap;
 use std::marker::Model;
+use text_pieces::TextPieces;
 
 /// Lookaheads with their lines in a report. A lane table's items all have one lookahead, with all
 /// tokens. So its line is copied, and not made for each item.
 #[derive(Drop)]
 pub(crate) struct LookaheadLines<'a, L: LookaheadPrinter<String>> {
     terminals: &'a TerminalSet,
-    lines: Vec<(L, String)>,
+    lines: Vec<(L, Text)>,
     places: BTreeMap<L, usize>,
 }
 
@@ -45,9 +47,9 @@ impl<'a, L: LookaheadPrinter<String>> LookaheadLines<'a, L> {
     }
 
     // The line of a lookahead, if it was made.
-    fn find(&self, lookahead: &L) -> Option<&String>
-        ensures { IfSome result (λ line.
-            string_bytes line.now ≡ lookahead_line L.meaning self.now lookahead.now) }
+    fn find(&self, lookahead: &L) -> Option<&Text>
+        ensures { IfSome result
+            (λ line. line.now ≡ lookahead_line L.meaning self.now lookahead.now) }
     {
         let place = *self.places.get(lookahead)?;
         if place >= self.lines.len() {
@@ -67,27 +69,51 @@ impl<'a, L: LookaheadPrinter<String>> LookaheadLines<'a, L> {
         if self.find(lookahead).is_some() {
             return Ok(());
         }
-        let mut line = String::new(alloc);
-        push_lookahead(&mut line, lookahead, self.terminals)?;
+        let line = line_of(alloc, lookahead, self.terminals)?;
         let place = self.lines.len();
         self.lines.push((lookahead.copy(alloc)?, line))?;
         let _known = self.places.insert(lookahead.copy(alloc)?, place)?;
         Ok(())
     }
 
-    /// Appends the line of a lookahead, if it has a token.
-    pub(crate) fn push_line(&self, text: &mut String, lookahead: &L) -> Result<(), OutOfMemory>
-        ensures { OnOk result (string_bytes text.new ≡ string_bytes text.old ++ lookahead_line
-            L.meaning self.now lookahead.now) }
+    // The line of a lookahead, or no bytes if it has no token. If the line was made, this is a copy.
+    fn line(&self, alloc: Global, lookahead: &L) -> Result<Text, OutOfMemory>
+        ensures { IfOk result
+            (λ line. line ≡ lookahead_line L.meaning self.now lookahead.now) }
     {
         match self.find(lookahead) {
-            Some(line) => {
-                text.push_str(line.as_str())?;
-                Ok(())
-            }
-            None => push_lookahead(text, lookahead, self.terminals),
+            Some(line) => line.clone(alloc),
+            None => line_of(alloc, lookahead, self.terminals),
         }
     }
+
+    /// Appends a string and the line of a lookahead, if it has a token.
+    pub(crate) fn push_line(
+        &self,
+        alloc: Global,
+        text: &mut TextPieces,
+        own: String,
+        lookahead: &L,
+    ) -> Result<(), OutOfMemory>
+        ensures { OnOk result (text.new ≡ text.old ++ (string_bytes own ++ lookahead_line L.meaning
+            self.now lookahead.now)) }
+    {
+        text.push(own, self.line(alloc, lookahead)?)
+    }
+}
+
+// The line of a lookahead, or no bytes if it has no token.
+fn line_of<L: LookaheadPrinter<String>>(
+    alloc: Global,
+    lookahead: &L,
+    terminals: &TerminalSet,
+) -> Result<Text, OutOfMemory>
+    ensures { IfOk result
+        (λ line. line ≡ lookahead_line L.meaning terminals.now lookahead.now) }
+{
+    let mut line = String::new(alloc);
+    push_lookahead(&mut line, lookahead, terminals)?;
+    Text::from_string(alloc, line)
 }
 
 /// The lines of the lookaheads of states and of conflicts.

@@ -1,10 +1,13 @@
 //! The sink that takes the bytes of a report, and counts its faults.
 ghost use Rattle.std.specs.Prelude.{◌≡◌, ℕ, Bool, List, ◌+◌, ◌-◌, ◌^◌, ◌<◌, ◌≤◌, length, None, Some, Option, IfOk, IfErr, OnOk, OnErr};
 ghost use Rattle.std.specs.Io.KnownBytes.{Appends};
+ghost use Rattle.text_pieces.specs.Pieces.{piece_text};
 ghost use Rattle.lalrpop_report.specs.reports.ReportSinks.{PutTakes, PutCounts, PutIsLast, IsWriteFault, TellsLastFault, WroteBeginning, writer_of, faults_of};
 
 use super::error::ReportError;
+use lalrpop_base::text::Text;
 use std::io;
+use text_pieces::TextPieces;
 
 /// Takes bytes, and counts the calls that took none.
 pub trait Sink {
@@ -116,4 +119,38 @@ pub(crate) fn put_all<S: Sink>(out: &mut S, text: &[u8]) -> Result<(), ReportErr
         }
     }
     Ok(())
+}
+
+/// Puts a whole text, piece after piece. It stops at any error of the sink, and if the sink takes
+/// nothing.
+pub(crate) fn put_pieces<S: Sink>(out: &mut S, text: &TextPieces) -> Result<(), ReportError>
+    requires { S.fault_count out.old < 2 ^ 64 - 1 }
+    ensures whole { OnOk result (Appends (S.contents out.old) (S.contents out.new) text.now) }
+    ensures no_fault { OnOk result (S.fault_count out.new ≡ S.fault_count out.old) }
+    ensures part { OnErr result
+        (WroteBeginning (S.contents out.old) (S.contents out.new) text.now) }
+    ensures fault { OnErr result (S.fault_count out.new ≡ S.fault_count out.old + 1) }
+    ensures kind { IfErr result IsWriteFault }
+    ensures last { IfErr result (TellsLastFault (S.last_was_zero out.new)) }
+{
+    for piece in text.pieces() {
+        put_piece(out, piece)?;
+    }
+    Ok(())
+}
+
+// Puts the string of a piece, and then its line.
+fn put_piece<S: Sink>(out: &mut S, piece: &(String, Text)) -> Result<(), ReportError>
+    requires { S.fault_count out.old < 2 ^ 64 - 1 }
+    ensures whole { OnOk result
+        (Appends (S.contents out.old) (S.contents out.new) (piece_text piece.now)) }
+    ensures no_fault { OnOk result (S.fault_count out.new ≡ S.fault_count out.old) }
+    ensures part { OnErr result
+        (WroteBeginning (S.contents out.old) (S.contents out.new) (piece_text piece.now)) }
+    ensures fault { OnErr result (S.fault_count out.new ≡ S.fault_count out.old + 1) }
+    ensures kind { IfErr result IsWriteFault }
+    ensures last { IfErr result (TellsLastFault (S.last_was_zero out.new)) }
+{
+    put_all(out, piece.0.as_bytes())?;
+    put_all(out, piece.1.as_str().as_bytes())
 }

@@ -1,5 +1,5 @@
 //! The block of a state in a report.
-ghost use Rattle.std.specs.Prelude.{◌≡◌, ◌++◌, OnOk, string_bytes, map, List, Some, slice_get};
+ghost use Rattle.std.specs.Prelude.{◌≡◌, ◌++◌, IfOk, OnOk, string_bytes, map, List, Some, slice_get};
 ghost use Rattle.std.specs.List.{flat_map};
 ghost use Rattle.lalrpop_base.specs.Words.{Dotted, nonterminal_text};
 ghost use Rattle.lalrpop_states.specs.declared.lr1_core.state.Conflict.{Conflict};
@@ -16,6 +16,7 @@ use lalrpop_base::memory::OutOfMemory;
 use lalrpop_base::repr::{NonterminalString, Production, TerminalString};
 use std::alloc::Global;
 use std::collections::BTreeMap;
+use text_pieces::TextPieces;
 
 // The length in bytes of the longest nonterminal of the items, or 0 if there are none.
 fn widest_nonterminal<L>(items: &[Item<'_, L>]) -> usize
@@ -42,49 +43,52 @@ fn widest_key<K: Ord + HasDisplayLen, V>(edges: &BTreeMap<K, V>) -> usize
 
 // Appends the items of a state, their nonterminals padded to one width.
 fn push_items<L: LookaheadPrinter<String>>(
-    text: &mut String,
+    alloc: Global,
+    text: &mut TextPieces,
     items: &[Item<'_, L>],
     lines: &LookaheadLines<'_, L>,
 ) -> Result<(), OutOfMemory>
-    ensures { OnOk result (string_bytes text.new ≡ string_bytes text.old ++ items_block L.meaning
+    ensures { OnOk result (text.new ≡ text.old ++ items_block L.meaning
         lines.now items.now) }
 {
     let width = widest_nonterminal(items);
     for item in items {
-        push_item(text, item, width, lines)?;
+        push_item(alloc, text, item, width, lines)?;
     }
     Ok(())
 }
 
 // Appends the lines of reductions.
 fn push_each_reduction<L: LookaheadPrinter<String>>(
-    text: &mut String,
+    alloc: Global,
+    text: &mut TextPieces,
     reductions: &[(L, &Production)],
     lines: &LookaheadLines<'_, L>,
 ) -> Result<(), OutOfMemory>
-    ensures { OnOk result (string_bytes text.new ≡ string_bytes text.old ++ flat_map
+    ensures { OnOk result (text.new ≡ text.old ++ flat_map
         (reduction_lines L.meaning lines.now) reductions.now) }
 {
     for reduction in reductions {
-        push_reduction(text, reduction, lines)?;
+        push_reduction(alloc, text, reduction, lines)?;
     }
     Ok(())
 }
 
 // Appends an empty line and the reductions, if there are some.
 fn push_reductions<L: LookaheadPrinter<String>>(
-    text: &mut String,
+    alloc: Global,
+    text: &mut TextPieces,
     reductions: &[(L, &Production)],
     lines: &LookaheadLines<'_, L>,
 ) -> Result<(), OutOfMemory>
-    ensures { OnOk result (string_bytes text.new ≡ string_bytes text.old ++ reductions_block
+    ensures { OnOk result (text.new ≡ text.old ++ reductions_block
         L.meaning lines.now reductions.now) }
 {
     if reductions.is_empty() {
         return Ok(());
     }
-    text.push_str("\n")?;
-    push_each_reduction(text, reductions, lines)?;
+    text.push_str(alloc, "\n")?;
+    push_each_reduction(alloc, text, reductions, lines)?;
     Ok(())
 }
 
@@ -119,28 +123,28 @@ fn push_gotos(
     Ok(())
 }
 
-// Appends the shifts and the gotos, each part after an empty line, with all symbols in one width.
-fn push_edges(
+// The lines of the shifts and the gotos, each part after an empty line, with all symbols in one
+// width.
+fn edges_text(
     alloc: Global,
-    text: &mut String,
     shifts: &BTreeMap<TerminalString, StateIndex>,
     gotos: &BTreeMap<NonterminalString, StateIndex>,
-) -> Result<(), OutOfMemory>
-    ensures { OnOk result (string_bytes text.new ≡ string_bytes text.old ++ edges_lines
-        shifts.now.entries gotos.now.entries) }
+) -> Result<String, OutOfMemory>
+    ensures { IfOk result (λ text. string_bytes text ≡ edges_lines shifts.now.entries
+        gotos.now.entries) }
 {
     let width = widest_key(shifts).max(widest_key(gotos));
+    let mut text = String::from_str(alloc, "\n")?;
+    push_shifts(alloc, &mut text, shifts, width)?;
     text.push_str("\n")?;
-    push_shifts(alloc, text, shifts, width)?;
-    text.push_str("\n")?;
-    push_gotos(text, gotos, width)?;
-    Ok(())
+    push_gotos(&mut text, gotos, width)?;
+    Ok(text)
 }
 
 /// Appends the block of a state, with the conflicts at the places of the list.
 pub(crate) fn push_state<L: LookaheadPrinter<String>>(
     alloc: Global,
-    text: &mut String,
+    text: &mut TextPieces,
     state: &State<'_, L>,
     conflicts: &[Conflict<'_, L>],
     places: &[usize],
@@ -148,14 +152,13 @@ pub(crate) fn push_state<L: LookaheadPrinter<String>>(
 ) -> Result<(), OutOfMemory>
     ensures { (own : List (Conflict L)) →
         map (slice_get conflicts.now) places.now ≡ map (λ (c : Conflict L). Some c) own →
-        OnOk result (string_bytes text.new
-        ≡ string_bytes text.old ++ state_block L.meaning lines.now own state.now) }
+        OnOk result (text.new ≡ text.old ++ state_block L.meaning lines.now own state.now) }
 {
-    write!(text, "State {} {{\n", state.index)?;
-    push_items(text, &state.items.vec, lines)?;
-    push_reductions(text, &state.reductions, lines)?;
-    push_edges(alloc, text, &state.shifts, &state.gotos)?;
+    text.push_own(alloc, format!(in alloc; "State {} {{\n", state.index)?)?;
+    push_items(alloc, text, &state.items.vec, lines)?;
+    push_reductions(alloc, text, &state.reductions, lines)?;
+    text.push_own(alloc, edges_text(alloc, &state.shifts, &state.gotos)?)?;
     push_conflicts_at(alloc, text, conflicts, places, lines)?;
-    text.push_str("}\n")?;
+    text.push_str(alloc, "}\n")?;
     Ok(())
 }

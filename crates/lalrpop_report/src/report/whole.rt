@@ -17,6 +17,7 @@ use lalrpop_base::lr1_core::state::{BuildError, Conflict, LrResult, State};
 use lalrpop_base::memory::OutOfMemory;
 use lalrpop_base::repr::terminals::TerminalSet;
 use std::alloc::Global;
+use text_pieces::TextPieces;
 
 // For the number of a state, the places of its conflicts in the list.
 type Places = Multimap<usize, Vec<usize>>;
@@ -45,17 +46,17 @@ fn places_in(places: &Places, number: usize) -> &[usize]
 // Appends an empty line and the block of a state with its conflicts.
 fn push_next_state<L: LookaheadPrinter<String>>(
     alloc: Global,
-    text: &mut String,
+    text: &mut TextPieces,
     state: &State<'_, L>,
     conflicts: &[Conflict<'_, L>],
     places: &Places,
     lines: &LookaheadLines<'_, L>,
 ) -> Result<(), OutOfMemory>
     requires { ArePlacesOf conflicts.now conflicts.now places.now }
-    ensures { OnOk result (string_bytes text.new ≡ string_bytes text.old ++ next_state L.meaning
+    ensures { OnOk result (text.new ≡ text.old ++ next_state L.meaning
         lines.now conflicts.now state.now) }
 {
-    text.push_str("\n")?;
+    text.push_str(alloc, "\n")?;
     let own = places_in(places, state.index.0);
     push_state(alloc, text, state, conflicts, own, lines)?;
     Ok(())
@@ -64,14 +65,14 @@ fn push_next_state<L: LookaheadPrinter<String>>(
 // Appends the blocks of states with their conflicts.
 fn push_states<L: LookaheadPrinter<String>>(
     alloc: Global,
-    text: &mut String,
+    text: &mut TextPieces,
     states: &[State<'_, L>],
     conflicts: &[Conflict<'_, L>],
     places: &Places,
     lines: &LookaheadLines<'_, L>,
 ) -> Result<(), OutOfMemory>
     requires { ArePlacesOf conflicts.now conflicts.now places.now }
-    ensures { OnOk result (string_bytes text.new ≡ string_bytes text.old ++ flat_map
+    ensures { OnOk result (text.new ≡ text.old ++ flat_map
         (next_state L.meaning lines.now conflicts.now) states.now) }
 {
     for state in states {
@@ -80,22 +81,23 @@ fn push_states<L: LookaheadPrinter<String>>(
     Ok(())
 }
 
-// Appends the section of the states.
-fn push_states_section<L: LookaheadPrinter<String>>(
+// A report from its summary on: the summary, which is given, and the section of the states.
+fn with_states<L: LookaheadPrinter<String>>(
     alloc: Global,
-    text: &mut String,
+    mut summary: String,
     states: &[State<'_, L>],
     conflicts: &[Conflict<'_, L>],
     terminals: &TerminalSet,
-) -> Result<(), OutOfMemory>
-    ensures { OnOk result (string_bytes text.new ≡ string_bytes text.old ++ states_section L.meaning
+) -> Result<TextPieces, OutOfMemory>
+    ensures { IfOk result (λ text. text ≡ string_bytes summary ++ states_section L.meaning
         terminals.now conflicts.now states.now) }
 {
     let places = places_by_state(alloc, conflicts)?;
     let lines = lines_of(alloc, terminals, states, conflicts)?;
-    push_section_header(text, "State Table")?;
-    push_states(alloc, text, states, conflicts, &places, &lines)?;
-    Ok(())
+    push_section_header(&mut summary, "State Table")?;
+    let mut text = TextPieces::of(alloc, summary)?;
+    push_states(alloc, &mut text, states, conflicts, &places, &lines)?;
+    Ok(text)
 }
 
 // The report of tables.
@@ -103,16 +105,15 @@ fn tables_text<'grammar, L: LookaheadPrinter<String>>(
     alloc: Global,
     terminals: &TerminalSet,
     states: &[State<'grammar, L>],
-) -> Result<String, OutOfMemory>
+) -> Result<TextPieces, OutOfMemory>
     ensures { IfOk result
-        (λ text. string_bytes text ≡ tables_report L.meaning terminals.now states.now) }
+        (λ text. text ≡ tables_report L.meaning terminals.now states.now) }
 {
     let conflicts: Vec<Conflict<'grammar, L>> = Vec::new(alloc);
-    let mut text = String::new(alloc);
-    push_opening(&mut text)?;
-    push_states_line(&mut text, states.len())?;
-    push_states_section(alloc, &mut text, states, &conflicts, terminals)?;
-    Ok(text)
+    let mut summary = String::new(alloc);
+    push_opening(&mut summary)?;
+    push_states_line(&mut summary, states.len())?;
+    with_states(alloc, summary, states, &conflicts, terminals)
 }
 
 // The report of conflicts.
@@ -121,17 +122,16 @@ fn failure_text<L: LookaheadPrinter<String>>(
     terminals: &TerminalSet,
     states: &[State<'_, L>],
     conflicts: &[Conflict<'_, L>],
-) -> Result<String, OutOfMemory>
-    ensures { IfOk result (λ text. string_bytes text ≡ failure_report L.meaning terminals.now
+) -> Result<TextPieces, OutOfMemory>
+    ensures { IfOk result (λ text. text ≡ failure_report L.meaning terminals.now
         states.now conflicts.now) }
 {
-    let mut text = String::new(alloc);
-    push_opening(&mut text)?;
-    text.push_str("Failure\n")?;
-    push_states_line(&mut text, states.len())?;
-    push_conflicts_summary(alloc, &mut text, conflicts)?;
-    push_states_section(alloc, &mut text, states, conflicts, terminals)?;
-    Ok(text)
+    let mut summary = String::new(alloc);
+    push_opening(&mut summary)?;
+    summary.push_str("Failure\n")?;
+    push_states_line(&mut summary, states.len())?;
+    push_conflicts_summary(alloc, &mut summary, conflicts)?;
+    with_states(alloc, summary, states, conflicts, terminals)
 }
 
 // The text of the report of an error. The error is `NoTables` for an allocation failure.
@@ -139,9 +139,9 @@ fn error_text<L: LookaheadPrinter<String>>(
     alloc: Global,
     terminals: &TerminalSet,
     error: &BuildError<'_, L>,
-) -> Result<String, ReportError>
+) -> Result<TextPieces, ReportError>
     ensures text { IfOk result
-        (λ text. error_report L.meaning terminals.now error.now ≡ Some (string_bytes text)) }
+        (λ text. error_report L.meaning terminals.now error.now ≡ Some text) }
     ensures offered { IfErr result (λ e. IfWriteFault e ⊥) }
     ensures tables { IfErr result (TellsOfText (error_report L.meaning terminals.now error.now)) }
 {
@@ -156,15 +156,16 @@ fn error_text<L: LookaheadPrinter<String>>(
     }
 }
 
-/// The text of the report of the result of a construction. The error is `NoTables` if that result
-/// is an allocation failure, or `Memory` if an allocation fails here.
-pub fn report_text<L: LookaheadPrinter<String>>(
+/// The text of the report of the result of a construction, in pieces: a line of a lookahead that
+/// stands many times is kept once. The error is `NoTables` if that result is an allocation failure,
+/// or `Memory` if an allocation fails here.
+pub fn report_pieces<L: LookaheadPrinter<String>>(
     alloc: Global,
     terminals: &TerminalSet,
     outcome: &LrResult<'_, L>,
-) -> Result<String, ReportError>
+) -> Result<TextPieces, ReportError>
     ensures text { IfOk result
-        (λ text. report_text L.meaning terminals.now outcome.now ≡ Some (string_bytes text)) }
+        (λ text. report_text L.meaning terminals.now outcome.now ≡ Some text) }
     ensures offered { IfErr result (λ e. IfWriteFault e ⊥) }
     ensures tables { IfErr result (TellsOfText (report_text L.meaning terminals.now outcome.now)) }
 {
@@ -175,4 +176,20 @@ pub fn report_text<L: LookaheadPrinter<String>>(
             Ok(text)
         }
     }
+}
+
+/// The text of the report of the result of a construction, as one string. The error is `NoTables` if
+/// that result is an allocation failure, or `Memory` if an allocation fails here.
+pub fn report_text<L: LookaheadPrinter<String>>(
+    alloc: Global,
+    terminals: &TerminalSet,
+    outcome: &LrResult<'_, L>,
+) -> Result<String, ReportError>
+    ensures text { IfOk result
+        (λ text. report_text L.meaning terminals.now outcome.now ≡ Some (string_bytes text)) }
+    ensures offered { IfErr result (λ e. IfWriteFault e ⊥) }
+    ensures tables { IfErr result (TellsOfText (report_text L.meaning terminals.now outcome.now)) }
+{
+    let pieces = report_pieces(alloc, terminals, outcome)?;
+    Ok(pieces.to_string(alloc)?)
 }

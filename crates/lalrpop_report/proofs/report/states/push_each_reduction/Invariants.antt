@@ -1,8 +1,8 @@
-use Rattle.std.proofs.Common.{◌≡◌, ◌++◌, string_bytes, take}
+use Rattle.std.proofs.Common.{◌≡◌, ◌++◌, take}
 use Rattle.std.specs.List.{flat_map}
 use Rattle.lalrpop_report.specs.Words.{reduction_lines}
 use Rattle.lalrpop_report.proofs.report.states.push_each_reduction.Given as goal
 
 abbrev pub invariant-loop-reduction : goal.invariant-loop-reduction
 invariant-loop-reduction g l =
-    string_bytes l.text ≡ string_bytes l.fn.text ++ flat_map (reduction_lines g.L.Lookahead.meaning l.lines) (take l.reduction-index l.reductions)
+    l.text ≡ l.fn.text ++ flat_map (reduction_lines g.L.Lookahead.meaning l.lines) (take l.reduction-index l.reductions)
