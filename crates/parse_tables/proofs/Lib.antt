@@ -1,0 +1,4 @@
+pub mod Packed
+pub mod ActionRows
+pub mod Sides
+pub mod StateRows
