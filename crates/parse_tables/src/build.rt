@@ -31,6 +31,8 @@ impl ParseTable {
         ensures table { IfOk result
             (λ t. IsTableOf t (contents grammar.now.terminals states.now)) }
         ensures terminals { IfOk result (λ t. t.terminals ≡ grammar.now.terminals) }
+        ensures nonterminals { IfOk result (λ t. t.nonterminals ≡ map
+            (λ (e : NonterminalString × NonterminalData). e.0) grammar.now.nonterminals.entries) }
         ensures productions { IfOk result (λ t. t.productions ≡ productions grammar.now) }
     {
         let terminals = grammar.terminals.clone(alloc)?;

@@ -2,16 +2,15 @@
 //!
 //! - `table`: a table of actions and gotos by number.
 //! - `build`: the table of states.
-//! - `numbering`: distinct values by number.
-//! - `rows`: packed rows.
+//! - `error`: why states have no table.
 #![tactic(auto)]
 
 mod action_rows;
 pub mod build;
 mod cells;
 pub mod error;
-pub mod numbering;
+mod numbering;
 mod packing;
-pub mod rows;
+mod rows;
 pub mod table;
 mod targets;

@@ -10,7 +10,7 @@ use std::marker::Model;
 
 /// Distinct values. The number of a value is its index in the order in which they were added.
 #[derive(Drop)]
-pub struct Numbering<K: Exact + Hash> {
+pub(crate) struct Numbering<K: Exact + Hash> {
     values: IndexSet<K>,
 }
 
@@ -24,7 +24,7 @@ impl<K: Exact + Hash> Model for Numbering<K> {
 
 impl<K: Exact + Hash> Numbering<K> {
     /// Without a value.
-    pub fn new(alloc: Global) -> Self
+    pub(crate) fn new(alloc: Global) -> Self
         ensures { result ≡ [] }
     {
         Numbering {
@@ -34,7 +34,7 @@ impl<K: Exact + Hash> Numbering<K> {
 
     /// Adds a value after the others. The errors are `Repeated`, with the number of the value, and
     /// `Memory`.
-    pub fn add(&mut self, value: K) -> Result<(), ParseTableError>
+    pub(crate) fn add(&mut self, value: K) -> Result<(), ParseTableError>
     where
         K: Drop,
         ensures { OnOk result (self.new ≡ self.old ++ value ∷ []) }
@@ -47,7 +47,7 @@ impl<K: Exact + Hash> Numbering<K> {
     }
 
     /// The number of a value, if it has one.
-    pub fn number(&self, value: &K) -> Option<usize>
+    pub(crate) fn number(&self, value: &K) -> Option<usize>
         ensures { IfSome result (λ n. slice_get self.now n ≡ Some value.now) }
     {
         let (number, found) = self.values.get_full(value)?;
@@ -59,7 +59,7 @@ impl<K: Exact + Hash> Numbering<K> {
     }
 
     /// All values, in the order of their numbers.
-    pub fn all(&self) -> &[K]
+    pub(crate) fn all(&self) -> &[K]
         ensures { result.now ≡ self.now }
     {
         self.values.as_slice()

@@ -10,8 +10,8 @@ use lalrpop_base::repr::terminals::TerminalSet;
 use lalrpop_base::repr::{NonterminalString, Production};
 
 /// A table for running a parser. The bit of a terminal is its number, and that of the end of the
-/// input is the number of terminals. Nonterminals and productions are numbered in the order of the
-/// grammar.
+/// input is the number of terminals. Nonterminals and productions are numbered in the order of
+/// `Grammar::nonterminals`, which is that of the names. The number of an action is that of a line.
 #[derive(Drop)]
 pub struct ParseTable {
     pub(crate) terminals: TerminalSet,

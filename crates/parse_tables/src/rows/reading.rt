@@ -18,21 +18,21 @@ impl Rows {
     }
 
     /// How many rows there are.
-    pub fn len(&self) -> usize
+    pub(crate) fn len(&self) -> usize
         ensures { result ≡ row_count self.now }
     {
         self.rows.len()
     }
 
     /// How many cells there are.
-    pub fn cell_count(&self) -> usize
+    pub(crate) fn cell_count(&self) -> usize
         ensures { result ≡ length self.now.cells.items }
     {
         self.cells.len()
     }
 
     /// The number in a row and a column. It is 0 if there is none.
-    pub fn get(&self, row: u32, column: u32) -> u32
+    pub(crate) fn get(&self, row: u32, column: u32) -> u32
         ensures { result ≡ number_at self.now row column }
     {
         let Some((start, owner)) = self.rows.get(row as usize) else {

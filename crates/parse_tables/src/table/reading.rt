@@ -69,10 +69,10 @@ impl ParseTable {
     }
 
     /// How many cells the actions and the gotos take, of 8 bytes each.
-    pub fn cell_count(&self) -> usize {
-        self.actions
-            .cell_count()
-            .saturating_add(self.gotos.cell_count())
+    pub fn cell_count(&self) -> usize
+        ensures { result ≡ length self.now.actions.cells.items + length self.now.gotos.cells.items }
+    {
+        self.actions.cell_count() + self.gotos.cell_count()
     }
 }
 
