@@ -1,0 +1,9 @@
+pub mod Following
+pub mod Lists
+pub mod Moves
+pub mod Reading
+pub mod Reducing
+pub mod Reductions
+pub mod Reports
+pub mod Stacks
+pub mod Widths

@@ -1,0 +1,10 @@
+pub mod Errors
+pub mod Events
+pub mod Expected
+pub mod Lists
+pub mod Machines
+pub mod Runs
+pub mod Shifts
+pub mod Steps
+pub mod Values
+pub mod Words
