@@ -34,7 +34,8 @@ from gate.mutants.basis import Repository
 from gate.mutants.kept import Kept
 from gate.mutants.ledger import Ledger
 from gate.mutants.mutant import mutants_of
-from gate.mutants.scratch import Libraries, NotProved, prepared, wait_for
+from gate.mutants.progress import Progress
+from gate.mutants.scratch import Libraries, NotProved, prepared
 from gate.mutants.since import still_refused
 from gate.mutants.trial import Trial
 
@@ -98,12 +99,12 @@ def choice(crates, how, root, kept):
     return [*changed, *others], line
 
 
-def tried(root, name, mutants, how, lanes, libraries):
+def tried(root, name, mutants, how, lanes, libraries, progress):
     """Tries mutants of one crate, once the libraries below it are proved and a lane is free."""
     trial = Trial(name, mutants, Kept(name, root, how.anew))
     try:
-        if how.beside and trial.left:
-            wait_for(below(name, named(root)), how.beside)
+        if progress and trial.left:
+            progress.wait_for(below(name, named(root)))
         with lanes, tempfile.TemporaryDirectory(prefix="mutants-") as room:
             if trial.left:
                 crate = prepared(name, root, room, not how.beside, libraries)
@@ -147,7 +148,8 @@ def main(words, root=ROOT):
     lanes = BoundedSemaphore(lanes_now())
     with tempfile.TemporaryDirectory(prefix="libraries-") as room, ThreadPoolExecutor(max(len(parts), 1)) as pool:
         libraries = Libraries(root, room)
-        trials = list(pool.map(lambda it: tried(root, *it, how, lanes, libraries), [it for it in parts if it[1]]))
+        progress = Progress(how.beside) if how.beside else None
+        trials = list(pool.map(lambda it: tried(root, *it, how, lanes, libraries, progress), [it for it in parts if it[1]]))
     return ended(crates, trials, how, kept)
 
 

@@ -1,21 +1,18 @@
 """Scratch repositories in which mutated crates are checked, over the libraries below as the
 repository's own run proved them."""
+import functools
 import importlib.machinery
 import importlib.util
 import os
-import re
 import shutil
 import subprocess
 import threading
-import time
 
 from gate.files import below, files_below, named, read, write
 
 PARTS = ("src", "specs", "proofs")
 # How many processes a check has.
 JOBS = 2
-# How many seconds pass before the next look at what `rt ci` has printed.
-PAUSE = 3
 
 
 class NotProved(Exception):
@@ -29,17 +26,28 @@ def copied(name, root, room):
             shutil.copytree(f"{root}/crates/{name}/{part}", f"{room}/crates/{name}/{part}")
 
 
-def built_of(name, root):
+def sums_of(root):
+    """The sum of each crate's library: rt's sum of all that the library is made from. Each is made
+    once, since rt would make the sum of a crate anew for each crate above it."""
+    sums = {}
+    for crate in toolchain().crates_below(root):
+        sums[crate.name] = crate.stamp()
+        crate.stamp = lambda made=sums[crate.name]: made
+    return sums
+
+
+def built_of(name, root, sums):
     """The folder of the library as it was proved and built in the repository."""
     rlib = f"{root}/crates/{name}/out/rlib"
     if not os.path.isdir(f"{rlib}/{name}.rlib"):
         raise NotProved(f"there is no proved {name}: run rt ci, or rt check in a crate above it")
     if os.path.isfile(f"{rlib}/stamp"):
-        # (by it rt itself tells whether the library is up to date)
-        return rlib
-    made = os.path.getmtime(f"{rlib}/{name}.rlib")
-    sources = [it for part in PARTS for it in files_below(f"{root}/crates/{name}/{part}")]
-    if any(os.path.getmtime(it) > made for it in sources):
+        has_changed = read(f"{rlib}/stamp") != sums()[name]
+    else:
+        made = os.path.getmtime(f"{rlib}/{name}.rlib")
+        sources = [it for part in PARTS for it in files_below(f"{root}/crates/{name}/{part}")]
+        has_changed = any(os.path.getmtime(it) > made for it in sources)
+    if has_changed:
         raise NotProved(f"{name} has changed since it was proved: run rt ci, or rt check in a crate above it")
     return rlib
 
@@ -50,13 +58,14 @@ class Libraries:
 
     def __init__(self, root, room):
         self.root, self.room, self.lock = root, room, threading.Lock()
+        self.sums = functools.cache(lambda: sums_of(root))
 
     def link(self, name, folder):
         """Makes the folder of the library, as it was proved and built."""
         copy = f"{self.room}/{name}"
         with self.lock:
             if not os.path.isdir(copy):
-                shutil.copytree(built_of(name, self.root), f"{copy}.part")
+                shutil.copytree(built_of(name, self.root, self.sums), f"{copy}.part")
                 os.rename(f"{copy}.part", copy)
         shutil.copytree(copy, folder, copy_function=os.link)
 
@@ -71,11 +80,20 @@ def toolchain():
 
 
 def mark_as_built(names, room):
-    """Has rt take the libraries in the scratch repository as they are. (rt ci leaves them without
-    the stamp that rt looks for.)"""
+    """Has rt take the libraries in the scratch repository as they are: rt looks for a stamp, which
+    has the sum of the library by the lines of crates.txt."""
     for crate in toolchain().crates_below(room):
         if crate.name in names:
             write(f"{crate.folder}/out/rlib/stamp", crate.stamp())
+
+
+def lines_for(name, names, crates):
+    """The lines of the scratch repository's crates.txt. The crate's own line names all libraries
+    below it, and the line of a library names the kit's libraries alone. The libraries are built, so
+    rt reads nothing below them. With their own lines, rt would make each sum anew at each mention."""
+    of_kit = {it: [dep for dep in crates[it] if dep not in crates] for it in [*names, name]}
+    lines = [f"{it}: {' '.join(of_kit[it])}\n" for it in names]
+    return "".join([*lines, f"{name}: {' '.join([*names, *of_kit[name]])}\n"])
 
 
 def prepared(name, root, room, keeps, libraries):
@@ -88,8 +106,8 @@ def prepared(name, root, room, keeps, libraries):
         copied(it, root, room)
     for it in names:
         libraries.link(it, f"{room}/crates/{it}/out/rlib")
-    write(f"{room}/crates.txt", "".join(f"{it}: {' '.join(crates[it])}\n" for it in [*names, name]))
-    mark_as_built([it for it in names if not os.path.isfile(f"{room}/crates/{it}/out/rlib/stamp")], room)
+    write(f"{room}/crates.txt", lines_for(name, names, crates))
+    mark_as_built(names, room)
     kept = f"{root}/crates/{name}/out/incremental"
     if keeps and os.path.isdir(kept):
         shutil.copytree(kept, f"{room}/crates/{name}/out/incremental")
@@ -110,19 +128,3 @@ def said_of(crate, flag, functions):
     for it in set(files_below(f"{crate}/proofs")) - were:
         os.remove(it)
     return said, used.ru_utime + used.ru_stime
-
-
-def wait_for(names, beside):
-    """Waits until the `rt ci` that runs beside has proved the crates, or has found them kept. It
-    writes what it prints to the file `said` of the folder, and `status` when it ends."""
-    while True:
-        has_ended = os.path.exists(f"{beside}/status")
-        # (so that its last lines have reached the file)
-        time.sleep(PAUSE)
-        said = read(f"{beside}/said") if os.path.exists(f"{beside}/said") else ""
-        lacking = [it for it in names if not re.search(rf"(?m)^rt: {re.escape(it)} (proved$|is kept: )", said)]
-        failed = [it for it in lacking if has_ended or re.search(rf"(?m)^rt: {re.escape(it)} NOT PROVED", said)]
-        if failed:
-            raise NotProved(f"rt ci has not proved {failed[0]}")
-        if not lacking:
-            return

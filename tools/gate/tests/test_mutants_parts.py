@@ -134,6 +134,7 @@ class Parts(unittest.TestCase):
             for name in ("low.rlib/part", "stamp"):
                 write(f"{rlib}/{name}", name)
             libraries = Libraries(room, f"{room}/libraries")
+            libraries.sums = lambda: {"low": "stamp"}
             for to in ("one", "two"):
                 libraries.link("low", f"{room}/{to}/out/rlib")
             nodes = [os.stat(f"{it}/low.rlib/part").st_ino for it in (f"{room}/one/out/rlib", f"{room}/two/out/rlib", rlib)]
@@ -142,3 +143,7 @@ class Parts(unittest.TestCase):
             self.assertEqual(read(f"{room}/two/out/rlib/stamp"), "stamp")
             with self.assertRaises(NotProved):
                 libraries.link("high", f"{room}/three")
+            changed = Libraries(room, f"{room}/others")
+            changed.sums = lambda: {"low": "another"}
+            with self.assertRaises(NotProved):
+                changed.link("low", f"{room}/four")
