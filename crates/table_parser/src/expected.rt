@@ -11,8 +11,8 @@ use std::alloc::Global;
 use std::convert::Infallible;
 
 /// The tokens that may come after terminals, all by their bits. The bit of the end of the input is
-/// the number of terminals. The terminals are read anew, in at most `limit` steps. So a caller
-/// whose parse was refused asks for the terminals before the refused token.
+/// the number of terminals. The terminals are read anew, in at most `limit` steps. After a
+/// refusal a caller passes the terminals before the refused token.
 pub fn expected_after(
     alloc: Global,
     table: &ParseTable,
