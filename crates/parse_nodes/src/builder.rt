@@ -47,6 +47,7 @@ impl ParseHandler for NodeBuilder {
 
     ghost takes = { AddsNode };
 
+    #[inline(always)]
     fn shift(&mut self, position: usize, bit: u32) -> Result<(), NodeError>
         ensures taken { OnOk result (AddsNode self.old (Shifted position bit) self.new) }
         ensures kept { OnErr result (self.new.nodes.items ≡ self.old.nodes.items) }
@@ -65,6 +66,7 @@ impl ParseHandler for NodeBuilder {
         Ok(())
     }
 
+    #[inline(always)]
     fn reduce(
         &mut self,
         production: u32,
@@ -85,6 +87,7 @@ impl ParseHandler for NodeBuilder {
 }
 
 // The node of a reduction, whose children are the last `len` trees of the nodes.
+#[inline(always)]
 fn inner_node(
     nodes: &[ParseNode],
     production: u32,

@@ -1,13 +1,12 @@
 //! `parser_bench` parses a made input by a table, so that instructions can be counted. Its words are
-//! what is made (`events`, `nodes` or `values`), and how often the ten terminals `n + n * ( n - n ) /`
-//! are repeated. Without words it makes each of them, of a short input.
+//! what is made (`events`, `nodes` or `values`), of which language (`calculator` or `json`), and how
+//! often its terminals are repeated. Without words it makes each of them, of short inputs.
 #![tactic(auto)]
 
-use grammar_text::{name_of, read};
-use lalrpop_base::repr::TerminalString;
-use lalrpop_tables::{Options, build_states};
+mod inputs;
+
+use inputs::Input;
 use parse_nodes::builder::NodeBuilder;
-use parse_tables::table::ParseTable;
 use std::alloc::Global;
 use std::convert::Infallible;
 use std::env;
@@ -15,59 +14,50 @@ use table_parser::handler::{ParseHandler, Silent};
 use table_parser::machine::Machine;
 use table_parser::values::{SemanticActions, ValueStack};
 
-// Sums and products.
-const GRAMMAR: &str = "S = E
-E = E \"+\" T
-E = E \"-\" T
-E = T
-T = T \"*\" F
-T = T \"/\" F
-T = F
-F = \"n\"
-F = \"(\" E \")\"
-";
-
-// The terminals that are repeated. One more `n` comes after them.
-const REPEATED: [&str; 10] = ["n", "+", "n", "*", "(", "n", "-", "n", ")", "/"];
-
 fn main(rt: HostRuntime) -> anyhow::Result<()> {
     let alloc = rt.alloc();
-    let grammar = read(alloc, GRAMMAR)?;
-    let states = build_states(alloc, &grammar, name_of(alloc, "S")?, &Options::default())?;
-    let table = ParseTable::new(alloc, &grammar, &states)?;
     let mut words = Vec::new(alloc);
     for word in env::args(&rt)?.skip(1) {
         words.push(word)?;
     }
-    let [what, count] = words.as_slice() else {
-        for what in ["events", "nodes", "values"] {
-            println!(rt; "{}", made(alloc, &table, what, 10)?)?;
-        }
+    let [what, language, count] = words.as_slice() else {
+        println!(rt; "{}", all_made(alloc, "calculator")?)?;
+        println!(rt; "{}", all_made(alloc, "json")?)?;
         return Ok(());
     };
+    let input = Input::of(alloc, language.as_str())?;
     let count = count.as_str().parse::<usize>().unwrap_or(10);
-    println!(rt; "{}", made(alloc, &table, what.as_str(), count)?)?;
+    println!(rt; "{}", made(alloc, &input, what.as_str(), count)?)?;
     Ok(())
 }
 
+// Makes each thing of a short input of a language.
+fn all_made(alloc: Global, language: &str) -> anyhow::Result<String> {
+    let input = Input::of(alloc, language)?;
+    let events = made(alloc, &input, "events", 10)?;
+    let nodes = made(alloc, &input, "nodes", 10)?;
+    let values = made(alloc, &input, "values", 10)?;
+    Ok(format!(in alloc; "{language}: {events}; {nodes}; {values}")?)
+}
+
 // Makes what a word says, and says how much was made.
-fn made(alloc: Global, table: &ParseTable, what: &str, count: usize) -> anyhow::Result<String> {
+fn made(alloc: Global, input: &Input, what: &str, count: usize) -> anyhow::Result<String> {
     match what {
         "events" => {
-            let is_parsed = is_parsed(alloc, table, count, &mut Silent)?;
-            Ok(format!(in alloc; "events: parsed: {is_parsed}")?)
+            let is_parsed = is_parsed(alloc, input, count, &mut Silent);
+            Ok(format!(in alloc; "events, parsed: {is_parsed}")?)
         }
         "nodes" => {
             let mut builder = NodeBuilder::new(alloc);
-            let is_parsed = is_parsed(alloc, table, count, &mut builder)?;
+            let is_parsed = is_parsed(alloc, input, count, &mut builder);
             let nodes = builder.nodes().len();
-            Ok(format!(in alloc; "nodes: parsed: {is_parsed}, {nodes} nodes")?)
+            Ok(format!(in alloc; "{nodes} nodes, parsed: {is_parsed}")?)
         }
         _ => {
             let mut stack = ValueStack::new(alloc, Leaves);
-            let is_parsed = is_parsed(alloc, table, count, &mut stack)?;
+            let is_parsed = is_parsed(alloc, input, count, &mut stack);
             let leaves = stack.into_value().unwrap_or(0);
-            Ok(format!(in alloc; "values: parsed: {is_parsed}, {leaves} terminals")?)
+            Ok(format!(in alloc; "{leaves} terminals, parsed: {is_parsed}")?)
         }
     }
 }
@@ -97,52 +87,31 @@ impl SemanticActions for Leaves {
 }
 
 // Whether the input with so many repetitions is parsed.
-fn is_parsed<H: ParseHandler>(
-    alloc: Global,
-    table: &ParseTable,
-    count: usize,
-    handler: &mut H,
-) -> anyhow::Result<bool> {
-    let mut repeated = Vec::new(alloc);
-    for text in REPEATED {
-        repeated.push(bit_of(table, text))?;
+fn is_parsed<H: ParseHandler>(alloc: Global, input: &Input, count: usize, handler: &mut H) -> bool {
+    let mut machine = Machine::new(alloc, &input.table, usize::MAX);
+    if !is_read(&mut machine, &input.first, 1, handler) {
+        return false;
     }
-    let mut machine = Machine::new(alloc, table, usize::MAX);
-    for _ in 0..count {
-        if !is_read(&mut machine, &repeated, handler) {
-            return Ok(false);
-        }
+    if !is_read(&mut machine, &input.repeated, count, handler) {
+        return false;
     }
-    let last = is_read(&mut machine, repeated.get(..1).unwrap_or(&[]), handler);
-    Ok(last && machine.finish(handler).is_ok())
+    let last = is_read(&mut machine, &input.last, 1, handler);
+    last && machine.finish(handler).is_ok()
 }
 
-// Whether terminals are read.
-fn is_read<H: ParseHandler>(machine: &mut Machine<'_>, bits: &[u32], handler: &mut H) -> bool {
-    for bit in bits {
-        if machine.shift(*bit, handler).is_err() {
-            return false;
+// Whether terminals are read, so often.
+fn is_read<H: ParseHandler>(
+    machine: &mut Machine<'_>,
+    bits: &[u32],
+    count: usize,
+    handler: &mut H,
+) -> bool {
+    for _ in 0..count {
+        for bit in bits {
+            if machine.shift(*bit, handler).is_err() {
+                return false;
+            }
         }
     }
     true
-}
-
-// The bit of the literal of a text, or that of the end.
-fn bit_of(table: &ParseTable, text: &str) -> u32 {
-    let mut bit: u32 = 0;
-    for terminal in table.terminals().all() {
-        if is_literal(terminal, text) {
-            return bit;
-        }
-        bit = bit.saturating_add(1);
-    }
-    bit
-}
-
-// Whether a terminal is the literal of a text.
-fn is_literal(terminal: &TerminalString, text: &str) -> bool {
-    match terminal {
-        TerminalString::Literal(literal) => literal.as_str() == text,
-        _ => false,
-    }
 }

@@ -1,4 +1,5 @@
-//! The steps of a run.
+//! The steps of a run. A call that is not inlined passes its result through memory, so those of a
+//! step are inlined.
 ghost use Rattle.std.specs.Prelude.{◌≡◌, ◌≢◌, ◌≤◌, ◌∷◌, ◌++◌, [], ℕ, IfErr, IfOk, OnOk, Some, get_or, length, slice_get, take};
 ghost use Rattle.lalrpop_base.specs.Words.{Configuration, Contents, IsBitOf, ReduceBy, ShiftTo, Stands, action_on, move, next_token};
 ghost use Rattle.lalrpop_grammar.specs.declared.repr.Production.{Production};
@@ -16,6 +17,7 @@ use parse_tables::table::TableAction;
 
 impl Machine<'_> {
     /// Makes the reductions on the token with a bit.
+    #[inline(always)]
     pub(crate) fn reduce_all<H: ParseHandler>(
         &mut self,
         bit: u32,
@@ -54,6 +56,7 @@ impl Machine<'_> {
 
     // Reduces by the production with a number, of which the number of the nonterminal and the
     // length of the right side are given.
+    #[inline(always)]
     fn reduce<H: ParseHandler>(
         &mut self,
         number: u32,
@@ -97,6 +100,7 @@ impl Machine<'_> {
     }
 
     // The entry of the stack at a place, or the state and the position on top if it has none there.
+    #[inline(always)]
     fn entry(&self, place: usize) -> (u32, usize)
         ensures { result ≡ get_or self.now.below.items place (self.now.state, self.now.position) }
     {
@@ -107,6 +111,7 @@ impl Machine<'_> {
     }
 
     // Pops what is above the entry at a place. If the place is above the stack, the entry is pushed.
+    #[inline(always)]
     fn pop_to(&mut self, place: usize, entry: (u32, usize)) -> Result<(), OutOfMemory>
         requires within { place ≤ length self.old.below.items }
         requires there { entry ≡ get_or self.old.below.items place entry }
@@ -120,12 +125,26 @@ impl Machine<'_> {
         if place < self.below.len() {
             self.below.truncate(place + 1);
         } else {
-            self.below.push(entry)?;
+            self.push_entry(entry)?;
         }
         Ok(())
     }
 
+    // Pushes an entry, which few reductions do: those by a production without symbols.
+    #[inline(never)]
+    fn push_entry(&mut self, entry: (u32, usize)) -> Result<(), OutOfMemory>
+        ensures below { OnOk result (self.new.below.items ≡ self.old.below.items ++ entry ∷ []) }
+        ensures state { self.new.state ≡ self.old.state }
+        ensures position { self.new.position ≡ self.old.position }
+        ensures left { self.new.left ≡ self.old.left }
+        ensures table { self.new.table ≡ self.old.table }
+    {
+        self.below.push(entry)?;
+        Ok(())
+    }
+
     /// Shifts the terminal with a bit, to a state.
+    #[inline(always)]
     pub(crate) fn push<H: ParseHandler>(
         &mut self,
         target: u32,

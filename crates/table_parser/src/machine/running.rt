@@ -49,6 +49,7 @@ impl<'t> Machine<'t> {
     }
 
     /// Reads the terminal with a bit. After an error the run is over.
+    #[inline(always)]
     pub fn shift<H: ParseHandler>(
         &mut self,
         bit: u32,
