@@ -3,8 +3,6 @@
 #![tactic(auto)]
 
 #[cfg(test)]
-mod agreement;
-#[cfg(test)]
 mod events;
 #[cfg(test)]
 mod expected;
@@ -16,5 +14,7 @@ mod nodes;
 mod refusals;
 #[cfg(test)]
 mod tables;
+#[cfg(test)]
+mod trees;
 #[cfg(test)]
 mod values;
