@@ -103,7 +103,7 @@ fn an_empty_production_begins_and_ends_at_one_position(rt: HostRuntime) -> Resul
     Ok(())
 }
 
-// A run of 1,000,000 tokens on one level, and one of 100,000 levels.
+// A run of 10,000,001 tokens on one level, and one of 1,000,000 levels.
 #[test]
 fn long_and_deep_inputs_are_parsed(rt: HostRuntime) -> Result<(), Fail> {
     let alloc = rt.alloc();
@@ -113,18 +113,18 @@ fn long_and_deep_inputs_are_parsed(rt: HostRuntime) -> Result<(), Fail> {
         return Err(Fail::from("no bits"));
     };
     let mut long = Machine::new(alloc, &table, usize::MAX);
-    for _ in 0..500_000 {
+    for _ in 0..5_000_000 {
         push(&mut long, *name)?;
         push(&mut long, *minus)?;
     }
     push(&mut long, *name)?;
     assert!(rt; long.finish(&mut Silent).is_ok());
     let mut deep = Machine::new(alloc, &table, usize::MAX);
-    for _ in 0..100_000 {
+    for _ in 0..1_000_000 {
         push(&mut deep, *open)?;
     }
     push(&mut deep, *name)?;
-    for _ in 0..100_000 {
+    for _ in 0..1_000_000 {
         push(&mut deep, *close)?;
     }
     assert!(rt; deep.finish(&mut Silent).is_ok());

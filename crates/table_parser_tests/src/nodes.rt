@@ -121,14 +121,14 @@ fn a_deep_tree_has_all_nodes(rt: HostRuntime) -> Result<(), Fail> {
     };
     let mut machine = Machine::new(alloc, &table, usize::MAX);
     let mut builder = NodeBuilder::new(alloc);
-    repeat(&mut machine, *open, 100_000, &mut builder)?;
+    repeat(&mut machine, *open, 1_000_000, &mut builder)?;
     repeat(&mut machine, *name, 1, &mut builder)?;
-    repeat(&mut machine, *close, 100_000, &mut builder)?;
+    repeat(&mut machine, *close, 1_000_000, &mut builder)?;
     assert!(rt; machine.finish(&mut builder).is_ok());
-    assert_eq!(rt; builder.nodes().len(), 400_004);
+    assert_eq!(rt; builder.nodes().len(), 4_000_004);
     let tree = builder.into_nodes();
-    let children = tree.children(alloc, 400_003)?;
-    assert_eq!(rt; children.as_slice(), [400_002].as_slice());
+    let children = tree.children(alloc, 4_000_003)?;
+    assert_eq!(rt; children.as_slice(), [4_000_002].as_slice());
     Ok(())
 }
 
