@@ -1,0 +1,7 @@
+pub mod Bounds
+pub mod Counting
+pub mod Ending
+pub mod Endless
+pub mod Following
+pub mod Keys
+pub mod Passing
