@@ -1,0 +1,4 @@
+pub mod Expecting
+pub mod Kept
+pub mod Names
+pub mod Words

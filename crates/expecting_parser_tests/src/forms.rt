@@ -1,0 +1,81 @@
+// Values and nodes.
+
+use super::tables::sums;
+use expecting_parser::error::ExpectingError;
+use expecting_parser::nodes::parse_nodes_expecting;
+use expecting_parser::parse::parse_expecting;
+use std::alloc::Global;
+use std::test::Fail;
+use table_parser::error::TableParseError;
+use table_parser::values::{SemanticActions, ValueError, ValueStack};
+
+// The value of a tree is how many terminals it has. A right side of three values stops the run.
+#[derive(Drop)]
+struct Counts;
+
+impl SemanticActions for Counts {
+    type Value = usize;
+
+    type Stop = u32;
+
+    fn shift(&mut self, _position: usize, _bit: u32) -> Result<usize, u32> {
+        Ok(1)
+    }
+
+    fn reduce(
+        &mut self,
+        production: u32,
+        values: &mut Vec<usize>,
+        _first: usize,
+        _end: usize,
+    ) -> Result<usize, u32> {
+        match values.as_slice() {
+            [value] => Ok(*value),
+            _ => Err(production),
+        }
+    }
+}
+
+// The value of an input, or how it fails: by a refusal before which the end may come, or by an
+// action.
+fn value(alloc: Global, bits: &[u32]) -> Result<&'static str, Fail> {
+    let table = sums(alloc)?;
+    let mut stack = ValueStack::new(alloc, Counts);
+    match parse_expecting(alloc, &table, 100, bits.iter().copied(), &mut stack) {
+        Ok(()) if stack.into_value() == Some(1) => Ok("one"),
+        Err(ExpectingError::Refused(_, Ok(tokens))) if tokens.contains_bit(4) => Ok("refused"),
+        Err(ExpectingError::Failed(TableParseError::Stopped(ValueError::Stopped(_)))) => {
+            Ok("stopped")
+        }
+        _ => Ok("other"),
+    }
+}
+
+#[test]
+fn a_handler_may_make_values(rt: HostRuntime) -> Result<(), Fail> {
+    let alloc = rt.alloc();
+    assert_eq!(rt; value(alloc, &[3])?, "one");
+    assert_eq!(rt; value(alloc, &[3, 3])?, "refused");
+    assert_eq!(rt; value(alloc, &[3, 2, 3])?, "stopped");
+    assert_eq!(rt; value(alloc, &[3, 2])?, "other");
+    Ok(())
+}
+
+// The nodes of N - N are N, T, E, -, N, T, E and S.
+#[test]
+fn nodes_are_those_of_the_tree(rt: HostRuntime) -> Result<(), Fail> {
+    let alloc = rt.alloc();
+    let table = sums(alloc)?;
+    match parse_nodes_expecting(alloc, &table, 8, [3, 2, 3].iter().copied()) {
+        Ok(tree) => assert_eq!(rt; tree.root(), Some(7)),
+        Err(_) => return Err(Fail::from("no tree")),
+    }
+    match parse_nodes_expecting(alloc, &table, 8, [3, 2, 2].iter().copied()) {
+        Err(ExpectingError::Refused(refusal, Ok(tokens))) => {
+            assert_eq!(rt; refusal.position, 2);
+            assert!(rt; tokens.contains_bit(0) && tokens.contains_bit(3) && tokens.len() == 2);
+            Ok(())
+        }
+        _ => Err(Fail::from("no refusal")),
+    }
+}

@@ -1,0 +1,80 @@
+// What is reported of inputs, and the names of sets of tokens.
+
+use super::tables::sums;
+use expecting_parser::error::ExpectingError;
+use expecting_parser::names::expected_text;
+use expecting_parser::parse::parse_expecting;
+use lalrpop_base::lookahead::token_set::TokenSet;
+use std::alloc::Global;
+use std::test::Fail;
+use table_parser::handler::Silent;
+
+// What is reported of an input in so many steps.
+fn report(alloc: Global, bits: &[u32], limit: usize) -> Result<String, Fail> {
+    let table = sums(alloc)?;
+    match parse_expecting(alloc, &table, limit, bits.iter().copied(), &mut Silent) {
+        Ok(()) => Ok(String::from_str(alloc, "parsed")?),
+        Err(ExpectingError::Refused(refusal, Ok(tokens))) => {
+            let names = expected_text(alloc, &table, &tokens)?;
+            Ok(format!(in alloc; "{} at {}: {names}", refusal.bit, refusal.position)?)
+        }
+        Err(ExpectingError::Refused(refusal, Err(error))) => {
+            Ok(format!(in alloc; "{} at {}: {error}", refusal.bit, refusal.position)?)
+        }
+        Err(error) => Ok(format!(in alloc; "{error}")?),
+    }
+}
+
+// The first `N` of `N N` is one step. Then the trial of `-` takes two reductions and a shift, and
+// that of the end takes three reductions.
+const REPORTS: [(&[u32], usize, &str); 12] = [
+    (&[3], 100, "parsed"),
+    (&[3, 3], 100, "3 at 1: \"-\" or end of input"),
+    (&[3, 1], 100, "1 at 1: \"-\" or end of input"),
+    (&[3, 2], 100, "4 at 2: \"(\" or \"N\""),
+    (&[], 100, "4 at 0: \"(\" or \"N\""),
+    (&[0, 3], 100, "4 at 2: \")\" or \"-\""),
+    (&[0, 3, 2, 1, 3], 100, "1 at 3: \"(\" or \"N\""),
+    (&[3, 3], 4, "3 at 1: \"-\" or end of input"),
+    (
+        &[3, 3],
+        3,
+        "3 at 1: the run needs more steps than the limit allows",
+    ),
+    (&[3, 7], 100, "the token 7 at position 1 is no terminal"),
+    (&[3, 2, 3], 8, "parsed"),
+    (
+        &[3, 2, 3],
+        7,
+        "the run needs more steps than the limit allows",
+    ),
+];
+
+#[test]
+fn refusals_have_the_expected_tokens(rt: HostRuntime) -> Result<(), Fail> {
+    let alloc = rt.alloc();
+    for (bits, limit, expected) in REPORTS {
+        let text = report(alloc, bits, limit)?;
+        assert_eq!(rt; text.as_str(), expected);
+    }
+    Ok(())
+}
+
+// The names of the tokens with these bits.
+fn names(alloc: Global, bits: &[usize]) -> Result<String, Fail> {
+    let table = sums(alloc)?;
+    let mut tokens = TokenSet::empty_set(alloc);
+    for bit in bits {
+        tokens.insert_bit(*bit % 5)?;
+    }
+    Ok(expected_text(alloc, &table, &tokens)?)
+}
+
+#[test]
+fn names_are_listed(rt: HostRuntime) -> Result<(), Fail> {
+    let alloc = rt.alloc();
+    assert_eq!(rt; names(alloc, &[])?.as_str(), "");
+    assert_eq!(rt; names(alloc, &[4])?.as_str(), "end of input");
+    assert_eq!(rt; names(alloc, &[3, 0, 2])?.as_str(), "\"(\", \"-\" or \"N\"");
+    Ok(())
+}
