@@ -31,8 +31,7 @@ impl Attempt for Refusal<'_> {
                 }
             }
             Err(ExpectingError::Refused(refusal, Err(TableParseError::Memory)))
-                if refusal.position == 1 =>
-            {
+                if refusal.position == 1 => {
                 self.without = self.without.saturating_add(1);
                 None
             }
