@@ -42,7 +42,10 @@ fn value(alloc: Global, bits: &[u32]) -> Result<&'static str, Fail> {
     let table = sums(alloc)?;
     let mut stack = ValueStack::new(alloc, Counts);
     match parse_expecting(alloc, &table, 100, bits.iter().copied(), &mut stack) {
-        Ok(()) if stack.into_value() == Some(1) => Ok("one"),
+        Ok(()) => match stack.into_value() {
+            Some(1) => Ok("one"),
+            _ => Ok("other"),
+        },
         Err(ExpectingError::Refused(_, Ok(tokens))) if tokens.contains_bit(4) => Ok("refused"),
         Err(ExpectingError::Failed(TableParseError::Stopped(ValueError::Stopped(_)))) => {
             Ok("stopped")
