@@ -1,5 +1,5 @@
 -- What follows from the error of a run for the error that is reported.
-use Rattle.std.proofs.Common.{◌≡◌, subst}
+use Rattle.std.proofs.Common.{subst}
 use Rattle.std.specs.Prelude.{IfOk, Result}
 use Rattle.std.specs.declared.convert.Infallible.{Infallible}
 use Rattle.lalrpop_base.specs.Words.{Bits}
