@@ -1,0 +1,25 @@
+//! What the programs `lrtab` and `lrshow` print of a grammar, for callers in C.
+#![tactic(auto)]
+
+use std::alloc::Global;
+
+/// The version of the interface. It grows if the meaning of a call changes.
+#[unsafe(no_mangle)]
+pub extern "C" fn lr1_version() -> u32 {
+    1
+}
+
+/// What `lrtab` or `lrshow` prints of the grammar text `text`. `words` is what stands after the
+/// name of the file on the command line, with a byte 0 between two words. As much of the text as
+/// fits goes to `out`, and the length of the whole text to `length`. The result is the status.
+#[unsafe(no_mangle)]
+pub extern "C" fn lr1_ask(
+    alloc: Global,
+    text: &[u8],
+    words: &[u8],
+    canonical: bool,
+    out: &mut [u8],
+    length: &mut usize,
+) -> u8 {
+    lr1_calls::ask::ask(alloc, text, words, canonical, out, length)
+}
