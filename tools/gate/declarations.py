@@ -5,7 +5,7 @@ CLAUSE = re.compile(r"\b(?:requires|ensures)\*?(?: \w+)? $")
 # A comment, a text and a character, whose brackets are none.
 PASSED = re.compile(r'//[^\n]*|"(?:[^"\\]|\\.)*"|\'[^\'\\\n]\'')
 HEAD = re.compile(
-    r"(?m)^(?P<indent> *)(?:pub(?:\([\w ]+\))? )?(?:unsafe |const )*"
+    r'(?m)^(?P<indent> *)(?:pub(?:\([\w ]+\))? )?(?:unsafe |const |extern "C" )*'
     r"(?P<kind>fn|struct|enum|trait|type|impl)\b(?: (?P<name>\w+))?"
 )
 

@@ -26,9 +26,10 @@ def files_below(top):
 
 
 def named(root):
-    """The crates that crates.txt names, lowest first, each with the words behind its name."""
+    """The crates that crates.txt names, lowest first, each with the words behind the colon. Before
+    the colon a static library has the word staticlib after its name."""
     rows = [it.partition(":") for it in read(f"{root}/crates.txt").splitlines() if ":" in it and it[0] != "#"]
-    return {name: words.split() for name, _, words in rows}
+    return {name.split()[0]: words.split() for name, _, words in rows}
 
 
 def listed(root):

@@ -1,17 +1,23 @@
 //! What the programs `lrtab` and `lrshow` print of a grammar, for callers in C.
 #![tactic(auto)]
 
+ghost use Rattle.std.specs.Prelude.{◌≡◌};
+ghost use Rattle.lr1_calls.specs.Calls.{IsAnswered};
+
+use lr1_calls::ask::ask;
 use std::alloc::Global;
 
 /// The version of the interface. It grows if the meaning of a call changes.
 #[unsafe(no_mangle)]
-pub extern "C" fn lr1_version() -> u32 {
+pub extern "C" fn lr1_version() -> u32
+    ensures { result ≡ 1 }
+{
     1
 }
 
-/// What `lrtab` or `lrshow` prints of the grammar text `text`. `words` is what stands after the
-/// name of the file on the command line, with a byte 0 between two words. As much of the text as
-/// fits goes to `out`, and the length of the whole text to `length`. The result is the status.
+/// What `lrtab` or `lrshow` prints of the grammar text `text`. `words` is what is after the name of
+/// the file on the command line, with a byte 0 between two words. As much of the text as fits goes
+/// to `out`, and the length of the whole text to `length`. The result is the status.
 #[unsafe(no_mangle)]
 pub extern "C" fn lr1_ask(
     alloc: Global,
@@ -20,6 +26,8 @@ pub extern "C" fn lr1_ask(
     canonical: bool,
     out: &mut [u8],
     length: &mut usize,
-) -> u8 {
-    lr1_calls::ask::ask(alloc, text, words, canonical, out, length)
+) -> u8
+    ensures { IsAnswered canonical words.now text.now result out.old out.new length.new }
+{
+    ask(alloc, text, words, canonical, out, length)
 }

@@ -33,6 +33,8 @@ class Graph(CommandTest):
             ("a missing line", 1, ":10: crates.txt gives '4 top: d c', the page has None", page(GRAPH[:-11])),
             ("a line too many", 1, ":11: crates.txt gives None, the page has '4 more'", page(f"{GRAPH}\n4 more")),
             ("a new crate", 1, "gives '4 new: c', the page has None", page(GRAPH), f"{CRATES}new: c\n"),
+            ("a static library", 1, "gives '5 for_c: top', the page has None", page(GRAPH),
+             f"{CRATES}for_c staticlib: top\n"),
             ("no mark", 1, f"docs/ARCHITECTURE.md has 0 lines {crates_graph.MARK}", page(GRAPH, "")),
             ("two marks", 1, "has 2 lines", page(GRAPH) + page(GRAPH)),
             ("no block", 1, "ARCHITECTURE.md:3: no fenced block follows the mark", page(GRAPH, fence="")),

@@ -26,6 +26,7 @@ impl Count {{
 
 fn twice() {{}}
 """
+EXPORT = 'pub extern "C" fn one() -> u8\n    ensures { result ≡ 1 }'
 LONGER = SOURCE.replace("+ 1 }", "+ 1 }\n        ensures x { ⊤ }")
 
 
@@ -51,6 +52,7 @@ class Quotes(CommandTest):
         self.check(quotes, (
             ("equal quotes", 0, "quotes: 2 agree\n", page + quoted(" Count", COUNT)),
             ("a body and a file", 0, "quotes: 2 agree\n", quoted(" more whole", BODY) + quoted("", SOURCE.strip())),
+            ("an export", 0, "quotes: 1 agree\n", quoted(" one", EXPORT), f"{SOURCE}\n{EXPORT}\n{{\n    1\n}}\n"),
             ("no quotes", 1, "quotes: 0 agree\n", "Nothing.\n"),
             ("a changed clause", 1, "line 2: the source has '    requires room { self.now.all < 9 }'", stale),
             ("a new clause", 1, "line 5: the source has '    ensures x { ⊤ }', the quote None", page, LONGER),
