@@ -1,5 +1,5 @@
 -- A text that is copied to a room part by part.
-use Rattle.std.proofs.Common.{◌≡◌, ◌≤◌, ◌<◌, ◌+◌, ◌-◌, ℕ, suc, List, [], ◌∷◌, ◌++◌, min, length, take, drop, get_or, ap, sym, subst, ◌∙◌, refl, arith}
+use Rattle.std.proofs.Common.{◌≡◌, ◌≤◌, ◌<◌, ◌+◌, ◌-◌, ℕ, suc, List, [], ◌∷◌, ◌++◌, min, length, take, drop, get_or, ap, sym, ◌∙◌, refl, arith}
 use Rattle.std.proofs.lemmas.List.{length-take, length-take-le, length-drop, length-append, drop_more}
 use Rattle.std.specs.List.{flat_map}
 use Rattle.lr1_calls.specs.Copied.{filled}
