@@ -19,6 +19,7 @@ COMMANDS = {
     "hostile": ("gate.hostile.command", "runs lrtab and lrshow on random and deep inputs"),
     "growths": ("gate.growths", "asks each public call while memory ends in it"),
     "case-files": ("gate.case_files", "tries lalrpop_bench on faulty case files"),
+    "callers": ("gate.callers.command", "calls the library for C from C, Rust and Python"),
     "page": ("gate.page", "tries the pages of lrshow in Chromium; .ci/run does not call it"),
 }
 

@@ -32,6 +32,7 @@ AFTER = (
     ("hostile runs of lrtab and lrshow", "hostile"),
     ("growths refused in turn", "growths"),
     ("case files with faults", "case-files"),
+    ("calls from C, Rust and Python", "callers"),
 )
 # Minutes by the clock for a number of processors or more, and minutes of processor time.
 CLOCK, PROCESSORS = {4: 110, 0: 130}, 200

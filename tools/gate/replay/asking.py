@@ -8,18 +8,22 @@ from gate.shown import data as shown_data
 
 
 def data_of(program, grammars, file, start, method):
-    """The status and both outputs of the program, its data if there are some, and a text on what is
-    wrong with these, or None."""
+    """The status and both outputs of the program, and what `data_in` returns of these."""
     result = result_of(program, {"file": file, "words": [start, "json"], "method": method}, grammars.get(file))
+    return result, *data_in(result)
+
+
+def data_in(result):
+    """The data of a result, if there are some, and a text on what is wrong with it, or None."""
     if result["status"] not in (0, 1):
-        return result, None, f"standard output with status {result['status']}" if result["stdout"] else None
+        return None, f"standard output with status {result['status']}" if result["stdout"] else None
     try:
         data = shown_data.read(result["stdout"])
     except shown_data.WrongData as why:
-        return result, None, str(why)
+        return None, str(why)
     fault = "the status and the data differ" if result["status"] != (1 if data["conflicts"] else 0) else None
     stderr = result["stderr"].decode(errors="backslashreplace")
-    return result, data, f"standard error: {stderr!a}" if stderr else fault
+    return data, f"standard error: {stderr!a}" if stderr else fault
 
 
 def difference(case, result, data, fault, output_of):

@@ -1,0 +1,76 @@
+/*
+ * LR(1) tables of a grammar, from memory to memory.
+ *
+ * Each call is safe for all bytes. A call keeps nothing, so calls may run at the same time in
+ * different threads. Memory comes from malloc, realloc and free, and all of it is freed before a
+ * call returns. A call must not be made from a signal handler.
+ *
+ * The code of the calls is proved. That this header describes them is only tested.
+ */
+#ifndef LR1_H
+#define LR1_H
+
+#include <stdbool.h>
+#include <stddef.h>
+#include <stdint.h>
+
+#ifdef __cplusplus
+extern "C" {
+#endif
+
+/* The version of the calls of this header. */
+#define LR1_VERSION 1
+
+/* What a call returns. */
+enum lr1_status {
+    /* There are tables, a parse tree, or nothing to report. */
+    LR1_OK = 0,
+    /* There are conflicts or warnings, or a parse was refused or reached its limit. */
+    LR1_REFUSED = 1,
+    /* The text or the words have a fault. */
+    LR1_FAULT = 2,
+    /* malloc or realloc returned a null pointer. */
+    LR1_NO_MEMORY = 3
+};
+
+/* Returns the version of the calls that are linked. It differs from LR1_VERSION if the meaning of a
+ * call has changed. */
+uint32_t lr1_version(void);
+
+/*
+ * Answers a question on a grammar, as the programs lrtab and lrshow do.
+ *
+ * text       the grammar, one production in a line:
+ *                S = E
+ *                E = E "+" "n"
+ *                E = "n"
+ * words      the words after FILE on the command line of lrtab or lrshow, with a byte 0 between two
+ *            of them: START, what is asked, and its arguments. Some questions on S are
+ *                "S\0parse\0" "100\0n\0+\0n"   a parse of the tokens n + n in at most 100 steps
+ *                "S\0json"                     the tables or the conflicts, for programs
+ *                "S\0report"                   the tables or the conflicts, for people
+ *                "S\0explain"                  the conflicts, with examples of input
+ *                "S\0conflicts"                the causes of the conflicts
+ *                "S\0check"                    faults and warnings
+ *                "S\0html"                     a page for a browser
+ * canonical  true for the canonical tables, and false for lane tables if the grammar has such
+ * out, room  where the answer goes, and how many bytes there are
+ * length     gets the number of bytes of the whole answer
+ *
+ * The answer is UTF-8 without a byte 0 at its end. If it has at most `room` bytes, all of it is in
+ * `out`. If not, its first `room` bytes are, and a call with a room of *length bytes gets all of it.
+ * The rest of `out` keeps its bytes. For a status of LR1_FAULT the answer is a message.
+ *
+ * Returns an enum lr1_status.
+ *
+ * No pointer may be null, also for 0 bytes. The memory of `out` and of `length` overlaps no other
+ * memory of the call. A text and words have less than 2^63 bytes.
+ */
+uint8_t lr1_ask(const uint8_t *text, size_t text_length, const uint8_t *words, size_t words_length,
+                bool canonical, uint8_t *out, size_t room, size_t *length);
+
+#ifdef __cplusplus
+}
+#endif
+
+#endif

@@ -1,0 +1,84 @@
+"""The shared library, over ctypes."""
+
+from __future__ import annotations
+
+import ctypes
+import os
+import pathlib
+from typing import Iterable, NamedTuple, Union
+
+# The version of the library's calls that this package uses.
+_VERSION = 1
+# How many bytes the first call has room for.
+_ROOM = 1 << 16
+
+OK, REFUSED, FAULT, NO_MEMORY = range(4)
+
+
+class Answer(NamedTuple):
+    """What the library returns.
+
+    `status` is 0 for tables or a tree, 1 for conflicts, a refusal or a limit, and 2 for a fault.
+    """
+
+    status: int
+    text: str
+
+
+def _path() -> str:
+    """The file that the variable LR1_LIBRARY names, or else the one of this package."""
+    return os.environ.get("LR1_LIBRARY") or str(pathlib.Path(__file__).with_name("liblr1.so"))
+
+
+def _loaded(path: str) -> ctypes.CDLL:
+    """The library, with the types of its calls."""
+    try:
+        library = ctypes.CDLL(path)
+        library.lr1_version.restype = ctypes.c_uint32
+        library.lr1_version.argtypes = []
+        library.lr1_ask.restype = ctypes.c_uint8
+    except (OSError, AttributeError) as why:
+        raise ImportError(f"{path} is not the library lr1: {why}") from why
+    library.lr1_ask.argtypes = [
+        *(ctypes.c_char_p, ctypes.c_size_t),
+        *(ctypes.c_char_p, ctypes.c_size_t),
+        ctypes.c_bool,
+        *(ctypes.c_void_p, ctypes.c_size_t),
+        ctypes.POINTER(ctypes.c_size_t),
+    ]
+    if library.lr1_version() != _VERSION:
+        raise ImportError(f"{path} has version {library.lr1_version()}, and version {_VERSION} is needed")
+    return library
+
+
+_LIBRARY = _loaded(_path())
+
+
+def version() -> int:
+    """The version of the library's calls."""
+    return int(_LIBRARY.lr1_version())
+
+
+def ask(text: Union[str, bytes], words: Iterable[str], canonical: bool = False) -> Answer:
+    """Asks the library a question on a grammar, as the programs `lrtab` and `lrshow` are asked.
+
+    `words` are those after FILE on the command line of either program.
+
+    >>> ask('S = "x"', ["S", "parse", "9", "x"])
+    Answer(status=0, text='[S: "x"]\\n')
+    """
+    words = list(words)
+    if any("\0" in it for it in words):
+        raise ValueError("a word has a character U+0000")
+    given = text.encode() if isinstance(text, str) else bytes(text)
+    asked, room, length = "\0".join(words).encode(), _ROOM, ctypes.c_size_t()
+    while True:
+        out = ctypes.create_string_buffer(room)
+        status = _LIBRARY.lr1_ask(
+            given, len(given), asked, len(asked), canonical, out, room, ctypes.byref(length)
+        )
+        if status == NO_MEMORY:
+            raise MemoryError("the library lr1 found no memory")
+        if length.value <= room:
+            return Answer(status, ctypes.string_at(out, length.value).decode())
+        room = length.value

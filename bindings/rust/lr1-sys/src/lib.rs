@@ -1,0 +1,41 @@
+//! The calls of the C library `lr1`, as its header `lr1.h` has them. The crate `lr1` is the safe
+//! face of these calls.
+#![no_std]
+#![deny(missing_docs)]
+
+/// The version of the calls of this crate.
+pub const LR1_VERSION: u32 = 1;
+/// There are tables, a parse tree, or nothing to report.
+pub const LR1_OK: u8 = 0;
+/// There are conflicts or warnings, or a parse was refused or reached its limit.
+pub const LR1_REFUSED: u8 = 1;
+/// The text or the words have a fault.
+pub const LR1_FAULT: u8 = 2;
+/// `malloc` or `realloc` returned a null pointer.
+pub const LR1_NO_MEMORY: u8 = 3;
+
+extern "C" {
+    /// Returns the version of the calls that are linked.
+    pub fn lr1_version() -> u32;
+
+    /// Answers a question on a grammar, as the programs `lrtab` and `lrshow` do. `words` are those
+    /// after FILE on the command line, with a byte 0 between two of them. As much of the answer as
+    /// fits goes to `out`, and the number of its bytes to `length`.
+    ///
+    /// # Safety
+    ///
+    /// - `text` and `words` can be read for `text_length` and `words_length` bytes.
+    /// - `out` can be read and written for `room` bytes, which are initialized, and `length` for one
+    ///   `usize`. They overlap no other memory of the call.
+    /// - No pointer is null, also for 0 bytes.
+    pub fn lr1_ask(
+        text: *const u8,
+        text_length: usize,
+        words: *const u8,
+        words_length: usize,
+        canonical: bool,
+        out: *mut u8,
+        room: usize,
+        length: *mut usize,
+    ) -> u8;
+}

@@ -1,0 +1,100 @@
+//! The call of the C library.
+
+use crate::Error;
+
+/// How many bytes the first call has room for.
+const ROOM: usize = 1 << 16;
+
+/// How tables are made.
+#[derive(Clone, Copy, Debug, Default, PartialEq, Eq)]
+pub enum Method {
+    /// Lane tables if the grammar has such, which are smaller, and else the canonical ones.
+    #[default]
+    Lane,
+    /// The canonical tables, those of Knuth's construction.
+    Canonical,
+}
+
+/// What an answer says.
+#[derive(Clone, Copy, Debug, PartialEq, Eq)]
+pub enum Status {
+    /// There are tables, a parse tree, or nothing to report.
+    Ok,
+    /// There are conflicts or warnings, or a parse was refused or reached its limit.
+    Refused,
+    /// The text or the words have a fault, and the answer's text is a message.
+    Fault,
+}
+
+/// What the library returns.
+#[derive(Clone, Debug, PartialEq, Eq)]
+pub struct Answer {
+    /// What the text is.
+    pub status: Status,
+    /// What the program writes to standard output, or else to standard error.
+    pub text: String,
+}
+
+/// The version of the library's calls.
+pub fn version() -> u32 {
+    // SAFETY: the call has no conditions.
+    unsafe { lr1_sys::lr1_version() }
+}
+
+/// Asks the library a question on a grammar, as the programs `lrtab` and `lrshow` are asked. `words`
+/// are those after FILE on the command line of either program.
+///
+/// ```
+/// let answer = lr1::ask("S = \"x\"", &["S", "parse", "9", "x"], lr1::Method::Lane)?;
+/// assert_eq!(answer.text, "[S: \"x\"]\n");
+/// # Ok::<(), lr1::Error>(())
+/// ```
+pub fn ask(text: impl AsRef<[u8]>, words: &[impl AsRef<str>], method: Method) -> Result<Answer, Error> {
+    let words: Vec<&str> = words.iter().map(AsRef::as_ref).collect();
+    if let Some(word) = words.iter().find(|it| it.contains('\0')) {
+        return Err(Error::Word(word.to_string()));
+    }
+    let (text, words) = (text.as_ref(), words.join("\0"));
+    let mut out = Vec::new();
+    let mut length = ROOM;
+    loop {
+        out.try_reserve_exact(length).map_err(|_| Error::OutOfMemory)?;
+        out.resize(length, 0);
+        let status = call(text, words.as_bytes(), method, &mut out, &mut length);
+        if status == lr1_sys::LR1_NO_MEMORY {
+            return Err(Error::OutOfMemory);
+        }
+        if length <= out.len() {
+            out.truncate(length);
+            return answer(status, out);
+        }
+    }
+}
+
+fn call(text: &[u8], words: &[u8], method: Method, out: &mut [u8], length: &mut usize) -> u8 {
+    // SAFETY: each pointer is that of a slice or of a reference, with its length. `out` and `length`
+    // are borrowed mutably, so nothing overlaps them.
+    unsafe {
+        lr1_sys::lr1_ask(
+            text.as_ptr(),
+            text.len(),
+            words.as_ptr(),
+            words.len(),
+            method == Method::Canonical,
+            out.as_mut_ptr(),
+            out.len(),
+            length,
+        )
+    }
+}
+
+fn answer(status: u8, out: Vec<u8>) -> Result<Answer, Error> {
+    let text = String::from_utf8(out).map_err(|why| Error::Answer(why.to_string()))?;
+    let status = match status {
+        lr1_sys::LR1_OK => Status::Ok,
+        lr1_sys::LR1_REFUSED => Status::Refused,
+        lr1_sys::LR1_FAULT => Status::Fault,
+        _ => return Err(Error::Answer(format!("status {status}: {text}"))),
+    };
+    Ok(Answer { status, text })
+}

@@ -1,0 +1,1 @@
+"""Calls of the library for C, from C, Rust and Python."""

@@ -1,0 +1,120 @@
+"""Calls from C, and a call from C++."""
+import re
+
+from gate.callers.asked import random_question, refused_questions
+from gate.callers.parts import BINDINGS, HERE, Failed, answered, block_of, cases_by, lacks, ran, written
+from gate.files import read, write
+
+WARNINGS = ("-Wall", "-Wextra", "-Werror", "-pedantic")
+C, CPP = ("gcc", "-std=c99", "-O1", *WARNINGS), ("g++", "-std=c++11", *WARNINGS)
+WRAPPED = [f"-Wl,--wrap={it}" for it in ("malloc", "realloc", "free")]
+ASAN = ("-fsanitize=address", "-g")
+# How many random questions there are, and how much of one is printed.
+RANDOM, LONGEST = 20_000, 300
+
+CPP_CALLER = """#include <lr1.h>
+#include <cstdio>
+#include <string>
+
+int main() {
+    const std::string text("S = \\"x\\""), words("S\\0parse\\0" "9\\0x", 11);
+    const auto bytes = [](const std::string &it) { return reinterpret_cast<const uint8_t *>(it.data()); };
+    uint8_t out[100];
+    size_t length = 0;
+    const uint8_t status = lr1_ask(bytes(text), text.size(), bytes(words), words.size(), false, out, sizeof out, &length);
+    std::printf("%d %.*s", status, static_cast<int>(length), reinterpret_cast<char *>(out));
+    return lr1_version() == LR1_VERSION ? 0 : 1;
+}
+"""
+
+
+def compiled(library, room, name, source, *flags, by=C):
+    """A program of a source, with the archive of the library."""
+    ran(*by, *flags, f"-I{library}", "-o", f"{room}/{name}", source, f"{library}/liblr1.a")
+    return f"{room}/{name}"
+
+
+def names(library, _room):
+    """The names that both forms of the library define, beside those that the header declares."""
+    declared = set(re.findall(r"(?m)^\w+ (lr1_\w+)\(", read(f"{BINDINGS}/c/lr1.h")))
+    faults = []
+    for words in (("-g", "liblr1.a"), ("-D", "liblr1.so")):
+        said = ran("nm", words[0], "--defined-only", f"{library}/{words[1]}")
+        defined = set(re.findall(r"(?m)^[0-9a-f]+ [A-Z] (\w+?)(?:@@\w+)?$", said)) - {"LR1_1"}
+        if defined != declared:
+            faults.append(f"{words[1]} defines {sorted(defined)}, and lr1.h declares {sorted(declared)}")
+    return f"{len(declared)} calls", faults
+
+
+def expect_printed(program, expected, **variables):
+    said = ran(program, **variables)
+    return [] if said == expected else [f"{program} prints {said!r}, expected {expected!r}"]
+
+
+def examples(library, room):
+    """The program of the page, and example.c, by both forms of the library, and C++."""
+    page = f"{BINDINGS}/c/README.md"
+    write(f"{room}/page.c", block_of(page, "c"))
+    faults = expect_printed(compiled(library, room, "page", f"{room}/page.c"), block_of(page, "text"))
+    expected, source = block_of(page, "text", 1), f"{BINDINGS}/c/example.c"
+    faults += expect_printed(compiled(library, room, "example", source), expected)
+    ran(*C, f"-I{library}", "-o", f"{room}/shared", source, f"-L{library}", "-llr1", f"-Wl,-rpath,{library}")
+    faults += expect_printed(f"{room}/shared", expected)
+    if left_out := lacks("g++"):
+        return f"the page and example.c; C++ {left_out}", faults
+    write(f"{room}/caller.cc", CPP_CALLER)
+    faults += expect_printed(compiled(library, room, "caller", f"{room}/caller.cc", by=CPP), '0 [S: "x"]\n')
+    return "the page, example.c, C++", faults
+
+
+def sanitizer(room):
+    """Flags of gcc for AddressSanitizer, and its options, or none if it does not work here."""
+    write(f"{room}/empty.c", "int main(void) { return 0; }\n")
+    for options in ("detect_leaks=1", "detect_leaks=0"):
+        try:
+            ran("gcc", *ASAN, "-o", f"{room}/empty", f"{room}/empty.c")
+            ran(f"{room}/empty", ASAN_OPTIONS=options)
+            return ASAN, {"ASAN_OPTIONS": options}
+        except Failed:
+            pass
+    return (), {}
+
+
+def rooms(library, room, name):
+    """The program that asks with several rooms, and its variables."""
+    flags, variables = sanitizer(room)
+    return compiled(library, room, name, f"{HERE}/rooms.c", *flags), variables
+
+
+def cases(library, room, stored):
+    program, variables = rooms(library, room, "rooms")
+    return cases_by(stored, room, "c", program, **variables)
+
+
+def shown(question):
+    return f"text {question.text!r}, words {question.words!r}, canonical {question.canonical}"[:LONGEST]
+
+
+def random(library, room):
+    """Random questions, with several rooms."""
+    program, variables = rooms(library, room, "random")
+    questions = [random_question(it) for it in range(RANDOM)]
+    answers, said, why = answered(room, "random", questions, program, **variables)
+    counts = [sum(it.status == status for it in answers) for status in (0, 1, 2)]
+    by = "AddressSanitizer looked on" if variables else "without AddressSanitizer"
+    said = f"{said} ({', '.join(f'{count} of status {it}' for it, count in enumerate(counts))}), {by}"
+    if why:
+        return said, [f"random question {len(answers)}: {shown(questions[len(answers)])}", why]
+    return said, [] if all(counts) and sum(counts) == RANDOM else ["expected each of the statuses 0, 1 and 2"]
+
+
+def refused(library, room):
+    """Questions while allocations are refused."""
+    program = compiled(library, room, "refuse", f"{HERE}/refuse.c", *WRAPPED)
+    questions = refused_questions()
+    try:
+        return ran(program, written(room, "refused", questions)).strip(), []
+    except Failed as failed:
+        why = str(failed)
+    number = re.search(r"(?m)^.*question (\d+): ", why)
+    return "refused", [shown(questions[int(number[1])])] * bool(number) + [why]
