@@ -3,7 +3,7 @@
 
 use std::env;
 use std::path::{Path, PathBuf};
-use std::process::Command;
+use std::process::{exit, Command};
 
 const ARCHIVE: &str = "liblr1.a";
 
@@ -11,11 +11,11 @@ fn main() {
     println!("cargo:rerun-if-env-changed=LR1_LIB_DIR");
     let folder = folder();
     let archive = folder.join(ARCHIVE);
-    assert!(
-        archive.is_file(),
-        "there is no {}: run `tools/build --library` at the top of the repository, or set LR1_LIB_DIR",
-        archive.display()
-    );
+    if !archive.is_file() {
+        eprintln!("there is no {}", archive.display());
+        eprintln!("run `tools/build --library` at the top of the repository, or set LR1_LIB_DIR");
+        exit(1);
+    }
     println!("cargo:rerun-if-changed={}", archive.display());
     println!("cargo:rustc-link-search=native={}", folder.display());
     println!("cargo:rustc-link-lib=static=lr1");

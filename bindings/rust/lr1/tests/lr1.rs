@@ -49,7 +49,10 @@ fn wrong_symbols() {
     let mut grammar = Grammar::from_text(SUMS);
     for name in ["", "1", "A-B", "é", "n\n", "a b"] {
         let error = Error::Name(name.to_string());
-        assert_eq!(grammar.add_production("S", &[Nonterminal(name)]), Err(error.clone()));
+        assert_eq!(
+            grammar.add_production("S", &[Nonterminal(name)]),
+            Err(error.clone())
+        );
         assert_eq!(grammar.inline(name), Err(error.clone()));
         assert_eq!(grammar.tables(name), Err(error.clone()));
         assert_eq!(grammar.check(name), Err(error));
@@ -63,7 +66,9 @@ fn wrong_symbols() {
 
 #[test]
 fn any_literal() -> Result<(), Error> {
-    for text in ["é", "🦀", "\\", "=", "inline", "[", "]", ",", "'", "\r", "Eof", "\u{1}"] {
+    for text in [
+        "é", "🦀", "\\", "=", "inline", "[", "]", ",", "'", "\r", "Eof", "\u{1}",
+    ] {
         let mut grammar = Grammar::new();
         grammar.add_production("S", &[Literal(text), Literal("x")])?;
         let tables = grammar.tables("S")?;
@@ -79,16 +84,27 @@ fn any_literal() -> Result<(), Error> {
 
 #[test]
 fn faults() {
-    let error = Grammar::from_text("S = \"x\"\nS -> \"y\"").tables("S").unwrap_err();
-    assert_eq!((error.line(), error.to_string().as_str()), (Some(2), "line 2: not a grammar line"));
-    let error: Box<dyn error::Error> = Grammar::from_text("S = A\nA = A\ninline A").tables("S").unwrap_err().into();
+    let error = Grammar::from_text("S = \"x\"\nS -> \"y\"")
+        .tables("S")
+        .unwrap_err();
+    assert_eq!(
+        (error.line(), error.to_string().as_str()),
+        (Some(2), "line 2: not a grammar line")
+    );
+    let error: Box<dyn error::Error> = Grammar::from_text("S = A\nA = A\ninline A")
+        .tables("S")
+        .unwrap_err()
+        .into();
     assert_eq!(error.to_string(), "cyclic inline of A");
 }
 
 #[test]
 fn findings() -> Result<(), Error> {
     let found = Grammar::from_text("S : x").check("S")?;
-    assert_eq!((found.len(), found[0].is_error, found[0].line, found[0].column), (1, true, 1, 3));
+    assert_eq!(
+        (found.len(), found[0].is_error, found[0].line, found[0].column),
+        (1, true, 1, 3)
+    );
     assert_eq!(Grammar::from_text(SUMS).check("S")?, []);
     Ok(())
 }
@@ -98,12 +114,19 @@ fn data() -> Result<(), Error> {
     let tables = Grammar::from_text(SUMS).tables("S")?;
     assert!(tables.is_lr1());
     assert_eq!(tables.terminals(), ["+", "n"]);
-    let names: Vec<_> = tables.productions().iter().map(|it| (it.nonterminal.as_str(), it.number)).collect();
+    let names: Vec<_> = tables
+        .productions()
+        .iter()
+        .map(|it| (it.nonterminal.as_str(), it.number))
+        .collect();
     assert_eq!(names, [("E", 2), ("E", 1), ("S", 0)]);
     let right: Vec<_> = tables.productions()[1].symbols().collect();
     assert_eq!(right, [Nonterminal("E"), Literal("+"), Literal("n")]);
     let first = &tables.states()[0];
-    assert_eq!((first.shifts.len(), first.gotos.len(), first.reductions.len()), (1, 1, 0));
+    assert_eq!(
+        (first.shifts.len(), first.gotos.len(), first.reductions.len()),
+        (1, 1, 0)
+    );
     assert_eq!(tables.states()[first.gotos["E"]].reductions[0].production, 0);
     Ok(())
 }
@@ -114,15 +137,24 @@ fn methods() -> Result<(), Error> {
     assert_eq!(grammar.tables("S")?.states()[0].items[0].lookahead, None);
     let canonical = grammar.tables_by("S", Method::Canonical)?;
     assert!(canonical.states()[0].items[0].lookahead.is_some());
-    assert_eq!(tree_text(BRACKETS, &["(", "x", "]"]), "[S: [A: \"(\", [F: \"x\"], \"]\"]]");
+    assert_eq!(
+        tree_text(BRACKETS, &["(", "x", "]"]),
+        "[S: [A: \"(\", [F: \"x\"], \"]\"]]"
+    );
     Ok(())
 }
 
 #[test]
 fn parses() -> Result<(), Error> {
     let tables = Grammar::from_text(SUMS).tables("S")?;
-    assert_eq!(tree_text(SUMS, &["n", "+", "n"]), "[S: [E: [E: \"n\"], \"+\", \"n\"]]");
-    assert_eq!(tables.parse(&["n", "n"], 9)?, ParseOutcome::Refused(Some("n".to_string())));
+    assert_eq!(
+        tree_text(SUMS, &["n", "+", "n"]),
+        "[S: [E: [E: \"n\"], \"+\", \"n\"]]"
+    );
+    assert_eq!(
+        tables.parse(&["n", "n"], 9)?,
+        ParseOutcome::Refused(Some("n".to_string()))
+    );
     assert_eq!(tables.parse(&["n", "+"], 9)?, ParseOutcome::Refused(None));
     assert_eq!(tables.parse(&["n", "+", "n"], 3)?, ParseOutcome::Limit);
     assert_eq!(tables.parse(&["n\0"], 9), Err(Error::Word("n\0".to_string())));
@@ -155,9 +187,13 @@ fn texts() -> Result<(), Error> {
 #[test]
 fn long_answers() -> Result<(), Error> {
     let tokens: Vec<String> = (0..3000).map(|it| it.to_string()).collect();
-    let text: String = (0..3000).map(|it| format!("A{it} = \"{it}\" A{}\n", it + 1)).collect();
+    let text: String = (0..3000)
+        .map(|it| format!("A{it} = \"{it}\" A{}\n", it + 1))
+        .collect();
     let tables = Grammar::from_text(text + "A3000 =").tables("A0")?;
-    let ParseOutcome::Tree(tree) = tables.parse(&tokens, 9999)? else { panic!() };
+    let ParseOutcome::Tree(tree) = tables.parse(&tokens, 9999)? else {
+        panic!()
+    };
     assert_eq!(tree.node_count(), 6001);
     let (mut node, mut depth) = (tree.root(), 1);
     while let Some(last) = node.children().last() {
@@ -170,8 +206,14 @@ fn long_answers() -> Result<(), Error> {
 #[test]
 fn questions() -> Result<(), Error> {
     assert_eq!(version(), 1);
-    assert_eq!(ask(b"S = \xff", &["S", "json"], Method::Lane)?.status, Status::Fault);
-    assert_eq!(ask("", &["S", "parse", "1"], Method::Canonical)?.text, "refused at Eof\n");
+    assert_eq!(
+        ask(b"S = \xff", &["S", "json"], Method::Lane)?.status,
+        Status::Fault
+    );
+    assert_eq!(
+        ask("", &["S", "parse", "1"], Method::Canonical)?.text,
+        "refused at Eof\n"
+    );
     Ok(())
 }
 

@@ -1,0 +1,184 @@
+"""Tests of gate.callers, by a small library in C in the place of the proved one."""
+import json
+import os
+import shutil
+import subprocess
+import tempfile
+import unittest
+
+from gate.callers import in_c, parts
+from gate.callers.asked import Answer, Cases, Question, answers_in, file_of, random_question
+from gate.files import ROOT, write
+from gate.tests.test_replay import FAULT, case
+
+# Its answer is its words, for which it takes a block and grows it. FAULT is what is wrong with it.
+LIBRARY = """#include <lr1.h>
+#include <stdlib.h>
+#include <string.h>
+enum { BEFORE = 1, AFTER, BEHIND, STATUS, LENGTH, BYTES, TEXT, WORDS, LEAK, SILENT };
+uint32_t lr1_version(void) { return 1; }
+#if FAULT == 11
+uint32_t lr1_other(void) { return 1; }
+#endif
+uint8_t lr1_ask(const uint8_t *text, size_t text_length, const uint8_t *words, size_t words_length,
+                bool canonical, uint8_t *out, size_t room, size_t *length)
+{
+    void *block = malloc(10), *grown = block == NULL ? NULL : realloc(block, 20);
+    volatile uint8_t read = 0;
+    if (grown == NULL && FAULT != SILENT) {
+        if (FAULT != LEAK)
+            free(block);
+        return LR1_NO_MEMORY;
+    }
+    free(grown);
+    *length = words_length;
+    memcpy(out, words, room < words_length ? room : words_length);
+    if (FAULT == BEFORE)
+        out[-1] = 0;
+    if (FAULT == AFTER && room > words_length)
+        out[words_length] = 0;
+    if (FAULT == BEHIND)
+        out[room] = 0;
+    if (FAULT == LENGTH && room > 100)
+        *length = words_length + 1;
+    if (FAULT == BYTES && room == 1 && words_length > 1)
+        out[0] = 0;
+    if (FAULT == TEXT)
+        read = text[text_length];
+    if (FAULT == WORDS)
+        read = words[words_length];
+    (void)read;
+    return (uint8_t)(FAULT == STATUS && room == 1 ? 1 : canonical);
+}
+"""
+WORDS = [b"S\0json", b"S\0parse\0009", b"", b"S", b"\xff" * 200] * 5
+QUESTIONS = [Question(b"S = x", words, number % 2 == 1) for number, words in enumerate(WORDS)]
+# The number of a fault, and what the program prints of it.
+ROOM_FAULTS = (
+    (1, "a byte before the room was written"), (2, "a byte after the answer was written"), (3, "status -11"),
+    (4, "another status or length"), (5, "another status or length"), (6, "other bytes with less room"),
+    (7, "status -11"), (8, "status -11"),
+)
+CASES = [
+    case("g/S report/Lane", 0, "a report\n"), case("g/S parse 9 é/Canonical", 1, 'refused at "é"\n'),
+    case("g/S parse 9/Lane", 2, "", FAULT), case("g/S tables/Lane", 2, "", "usage: lrtab FILE START (..)\n"),
+    case("none/S report/Lane", 2, "", "cannot read none\n"),
+]
+
+
+def library(room, fault):
+    """A folder with a library that has a fault."""
+    write(f"{room}/library.c", LIBRARY)
+    shutil.copy(f"{ROOT}/bindings/c/lr1.h", room)
+    for command in (
+        f"gcc -fPIC -DFAULT={fault} -I. -c library.c",
+        "ar rcs liblr1.a library.o",
+        "gcc -shared -o liblr1.so library.o",
+    ):
+        subprocess.run(command.split(), cwd=room, check=True)
+    return room
+
+
+class Rooms(unittest.TestCase):
+    def asked(self, room, fault):
+        program = in_c.compiled(library(room, fault), room, "rooms", f"{parts.HERE}/rooms.c")
+        return parts.answered(room, "rooms", QUESTIONS, program)
+
+    def test_right_library(self):
+        with tempfile.TemporaryDirectory() as room:
+            answers, said, why = self.asked(room, 0)
+        self.assertEqual((said, why), (f"{len(WORDS)} questions", None))
+        self.assertEqual(answers, [Answer(it.canonical, it.words) for it in QUESTIONS])
+
+    def test_faults(self):
+        for fault, text in ROOM_FAULTS:
+            with self.subTest(fault), tempfile.TemporaryDirectory() as room:
+                answers, _, why = self.asked(room, fault)
+                self.assertIn(text, why)
+                self.assertLess(len(answers), len(QUESTIONS))
+
+
+class Refused(unittest.TestCase):
+    def refused(self, fault):
+        with tempfile.TemporaryDirectory() as room:
+            return in_c.refused(library(room, fault), room)
+
+    def test_right_library(self):
+        said, faults = self.refused(0)
+        self.assertRegex(said, r"^\d+ questions, \d+ refused allocations$")
+        self.assertEqual(faults, [])
+
+    def test_faults(self):
+        for fault, text in ((9, "a block was not freed"), (10, "no allocation failure was reported")):
+            with self.subTest(fault):
+                _, faults = self.refused(fault)
+                self.assertIn("words b'S\\x00", faults[0])
+                self.assertIn(text, faults[1])
+
+
+class Names(unittest.TestCase):
+    def test_names(self):
+        for fault, count in ((0, 0), (11, 2)):
+            with self.subTest(fault), tempfile.TemporaryDirectory() as room:
+                said, faults = in_c.names(library(room, fault), room)
+                self.assertEqual((said, len(faults)), ("2 calls", count))
+
+
+class Questions(unittest.TestCase):
+    def test_files(self):
+        self.assertEqual(file_of([Question(b"ab", b"c", True)]), b"\2\0\0\0ab\1\0\0\0c\1")
+        content = b"\1\2\0\0\0ab\0\0\0\0\0"
+        self.assertEqual(answers_in(content), [Answer(1, b"ab"), Answer(0, b"")])
+        self.assertEqual(answers_in(content[:-1]), [Answer(1, b"ab")])
+        self.assertEqual(answers_in(content[:6]), [])
+
+    def test_random(self):
+        questions = [random_question(it) for it in range(200)]
+        self.assertEqual(questions, [random_question(it) for it in range(200)])
+        self.assertEqual({it.canonical for it in questions}, {False, True})
+
+
+class StoredCases(unittest.TestCase):
+    def setUp(self):
+        with tempfile.TemporaryDirectory() as room:
+            write(f"{room}/grammars.jsonl", json.dumps({"file": "g", "text": "S = x\"\n"}))
+            write(f"{room}/cases_g.jsonl", "".join(f"{json.dumps(it)}\n" for it in CASES))
+            self.cases = Cases(room)
+        texts = [it["stdout"] or it["stderr"] for it in CASES[:3]]
+        check = [{"severity": "error", "line": 1, "column": 5, "start": 4, "end": 6, "message": "", "hint": ""}]
+        self.answers = [Answer(it["status"], text.encode()) for it, text in zip(CASES, texts)]
+        self.answers += [Answer(2, b"usage: START (..)\n"), Answer(2, FAULT.encode()), Answer(2, json.dumps(check).encode())]
+
+    def names(self, answers):
+        return [it.partition(": ")[0] for it in self.cases.faults(answers)]
+
+    def test_questions(self):
+        names = [it[0] for it in self.cases.rows]
+        self.assertEqual(names, [*(it["name"] for it in CASES[:4]), "g/S-json/Lane", "g/S-check/Lane"])
+        self.assertEqual(self.cases.questions()[1], Question(b"S = x\"\n", "S\0parse\0009\0é".encode(), True))
+
+    def test_right_answers(self):
+        # (the report is not the one of the data, and the finding has no texts)
+        self.assertEqual(self.names(self.answers), ["g/S-json/Lane", "g/S-check/Lane"])
+
+    def test_wrong_answers(self):
+        for place in range(4):
+            for wrong in (Answer(self.answers[place].status, b"x"), self.answers[place]._replace(status=3)):
+                with self.subTest(place=place, wrong=wrong):
+                    answers = [*self.answers[:place], wrong, *self.answers[place + 1 :]]
+                    self.assertEqual(self.names(answers)[0], CASES[place]["name"])
+            self.assertEqual(self.cases.faults(self.answers[:place]), [f"{CASES[place]['name']}: no answer"])
+
+
+class Pages(unittest.TestCase):
+    def test_blocks(self):
+        with tempfile.TemporaryDirectory() as room:
+            write(f"{room}/page.md", "a\n```c\nint a;\n```\n```text\n1\n```\n```c\nint b;\n```\n")
+            self.assertEqual(parts.block_of(f"{room}/page.md", "c", 1), "int b;\n")
+            self.assertEqual(parts.block_of(f"{room}/page.md", "text"), "1\n")
+
+    def test_a_command_that_fails(self):
+        with self.assertRaisesRegex(parts.Failed, "(?s)sh ended with status 3: .*out"):
+            parts.ran("sh", "-c", "echo out; exit 3")
+        self.assertEqual(parts.lacks("sh", "no-such-command"), "left out: no-such-command is not on the path")
+        self.assertTrue(os.path.isfile(f"{parts.BINDINGS}/c/example.c"))
