@@ -1,5 +1,6 @@
 """Questions to the library, with what is expected of their answers."""
 import collections
+import re
 import struct
 
 from gate.hostile.words import Inputs
@@ -119,16 +120,21 @@ class Cases:
 
 
 def random_question(number):
-    """A question that follows from a number: random bytes, or random texts and words with a change."""
+    """A question that follows from a number: a random text and words, of which some have a change."""
     chance = Inputs(number)
     text, rules = chance.random_text()
     words = chance.random_shown_words(rules) if number % 2 else chance.random_words(rules, text)
     text, words = bytes(text), b"\0".join(words[1:])
     if chance.is_one_in(4):
-        text = changed(chance, text)
+        text, words = changed(chance, text), with_small_limits(words)
     if chance.is_one_in(4):
-        words = changed(chance, words)
+        words = changed(chance, with_small_limits(words))
     return Question(text, words, bool(chance.below(2)))
+
+
+def with_small_limits(words):
+    """The words with fewer digits, since a parse by another grammar need not end before its limit."""
+    return re.sub(rb"[0-9]{5,}", b"9999", words)
 
 
 def changed(chance, content):

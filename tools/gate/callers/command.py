@@ -10,7 +10,9 @@ filled. If none is given, it is made here, over what `rt ci` and `rt check` keep
   from which the reports of these cases are laid out, and its checks.
 - 20,000 random questions, with several rooms, write nothing outside the room, and read nothing outside
   the text and the words. AddressSanitizer looks on if gcc has it.
-- Each allocation of some questions is refused in turn. Each time the status is 3, and nothing leaks.
+- Each allocation of some questions is refused in turn, alone and with all after it. The status is 3,
+  and nothing leaks. If one is refused alone, the answer may also be the right one, since a list that
+  finds no room to spare grows by less.
 
 A binding is left out, with a line on that, if its compiler or interpreter is not there. The status is
 0 if all is as expected.

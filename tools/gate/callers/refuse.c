@@ -3,12 +3,13 @@
  *
  * Asks each question over and over, while one allocation is refused, or while all from one on are.
  * It is linked so that the library calls the functions below in the place of malloc, realloc and
- * free. Each call in which an allocation is refused must return LR1_NO_MEMORY, and free all that it
- * took.
+ * free. Each such call must free all that it took, and return LR1_NO_MEMORY. If only one allocation is
+ * refused, it may also return the right answer, since a list that finds no room to spare grows by less.
  */
 #include "questions.h"
 
 enum { ROOM = 1 << 20 };
+static const long NONE = 1L << 40;
 
 void *__real_malloc(size_t);
 void *__real_realloc(void *, size_t);
@@ -50,53 +51,68 @@ void __wrap_free(void *block)
     __real_free(block);
 }
 
-static uint8_t out[ROOM];
+/* An answer. */
+struct answer {
+    uint8_t status, bytes[ROOM];
+    size_t length;
+};
+
+static struct answer right, other;
 
 /* Asks while an allocation is refused, or none if the number is large. */
-static uint8_t ask(const struct question *it, size_t number, long refused, bool all_after)
+static void ask(struct answer *to, const struct question *it, size_t number, long refused, bool all_after)
 {
-    size_t length;
     memory.blocks = memory.made = 0;
     memory.refused = refused;
     memory.all_after = all_after;
-    uint8_t status = lr1_ask(it->text.bytes, it->text.length, it->words.bytes, it->words.length,
-                             it->canonical, out, ROOM, &length);
+    to->status = lr1_ask(it->text.bytes, it->text.length, it->words.bytes, it->words.length, it->canonical,
+                         to->bytes, ROOM, &to->length);
     if (memory.blocks != 0)
         fault(number, "a block was not freed");
-    return status;
+    if (to->length > ROOM)
+        fault(number, "an answer that is too long for this test");
 }
 
-/* Refuses each allocation of a question in turn, and returns how many there are. */
-static long refuse_each(const struct question *it, size_t number, bool all_after)
+/* How often an allocation was refused, and how often that was reported. */
+static struct {
+    long refused, reported;
+} counts;
+
+/* Refuses each allocation of a question in turn. */
+static void refuse_each(const struct question *it, size_t number, bool all_after)
 {
-    const long none = 1L << 40;
-    uint8_t status = ask(it, number, none, all_after);
+    ask(&right, it, number, NONE, all_after);
     long count = memory.made;
-    if (status == LR1_NO_MEMORY)
+    if (right.status == LR1_NO_MEMORY)
         fault(number, "an allocation failure, and none was refused");
-    for (long refused = 0; refused < count; refused++)
-        if (ask(it, number, refused, all_after) != LR1_NO_MEMORY) {
-            printf("allocation %ld of %ld was refused; ", refused, count);
-            fault(number, "no allocation failure was reported");
+    for (long refused = 0; refused < count; refused++) {
+        ask(&other, it, number, refused, all_after);
+        bool is_right = other.status == right.status && other.length == right.length &&
+                        memcmp(other.bytes, right.bytes, right.length) == 0;
+        if (other.status == LR1_NO_MEMORY)
+            counts.reported++;
+        else if (all_after || !is_right) {
+            printf("allocation %ld of %ld was refused%s; ", refused, count, all_after ? ", with all after it" : "");
+            fault(number, is_right ? "it was not reported" : "it was not reported, and the answer is another one");
         }
-    return count;
+    }
+    counts.refused += count;
 }
 
 int main(int count, char **arguments)
 {
     if (count != 2)
         return 2;
-    memory.refused = 1L << 40;
+    memory.refused = NONE;
     struct part rest = read_file(arguments[1]);
     const uint8_t *questions = rest.bytes;
     size_t number = 0;
-    long refused = 0;
     for (; rest.length > 0; number++) {
         struct question it = take_question(&rest);
-        refused += refuse_each(&it, number, false);
-        refused += refuse_each(&it, number, true);
+        refuse_each(&it, number, false);
+        refuse_each(&it, number, true);
     }
     free((void *)questions);
-    printf("%zu questions, %ld refused allocations\n", number, refused);
+    printf("%zu questions, %ld refused allocations, %ld of them reported\n", number, counts.refused, counts.reported);
     return 0;
 }

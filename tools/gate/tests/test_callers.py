@@ -15,9 +15,9 @@ from gate.tests.test_replay import FAULT, case
 LIBRARY = """#include <lr1.h>
 #include <stdlib.h>
 #include <string.h>
-enum { BEFORE = 1, AFTER, BEHIND, STATUS, LENGTH, BYTES, TEXT, WORDS, LEAK, SILENT };
+enum { BEFORE = 1, AFTER, BEHIND, STATUS, LENGTH, BYTES, TEXT, WORDS, LEAK, SILENT, OTHER };
 uint32_t lr1_version(void) { return 1; }
-#if FAULT == 11
+#if FAULT == 12
 uint32_t lr1_other(void) { return 1; }
 #endif
 uint8_t lr1_ask(const uint8_t *text, size_t text_length, const uint8_t *words, size_t words_length,
@@ -25,12 +25,14 @@ uint8_t lr1_ask(const uint8_t *text, size_t text_length, const uint8_t *words, s
 {
     void *block = malloc(10), *grown = block == NULL ? NULL : realloc(block, 20);
     volatile uint8_t read = 0;
-    if (grown == NULL && FAULT != SILENT) {
+    if (grown == NULL && FAULT != SILENT && FAULT != OTHER) {
         if (FAULT != LEAK)
             free(block);
         return LR1_NO_MEMORY;
     }
-    free(grown);
+    free(grown == NULL ? block : grown);
+    if (grown == NULL && FAULT == OTHER)
+        return LR1_FAULT;
     *length = words_length;
     memcpy(out, words, room < words_length ? room : words_length);
     if (FAULT == BEFORE)
@@ -105,11 +107,12 @@ class Refused(unittest.TestCase):
 
     def test_right_library(self):
         said, faults = self.refused(0)
-        self.assertRegex(said, r"^\d+ questions, \d+ refused allocations$")
+        self.assertRegex(said, r"^78 questions, (\d+) refused allocations, \1 of them reported$")
         self.assertEqual(faults, [])
 
     def test_faults(self):
-        for fault, text in ((9, "a block was not freed"), (10, "no allocation failure was reported")):
+        rows = (9, "a block was not freed"), (10, "all after it; question 0: it was not reported"), (11, "another one")
+        for fault, text in rows:
             with self.subTest(fault):
                 _, faults = self.refused(fault)
                 self.assertIn("words b'S\\x00", faults[0])
@@ -118,7 +121,7 @@ class Refused(unittest.TestCase):
 
 class Names(unittest.TestCase):
     def test_names(self):
-        for fault, count in ((0, 0), (11, 2)):
+        for fault, count in ((0, 0), (12, 2)):
             with self.subTest(fault), tempfile.TemporaryDirectory() as room:
                 said, faults = in_c.names(library(room, fault), room)
                 self.assertEqual((said, len(faults)), ("2 calls", count))

@@ -119,8 +119,8 @@ fn data() -> Result<(), Error> {
         .iter()
         .map(|it| (it.nonterminal.as_str(), it.number))
         .collect();
-    assert_eq!(names, [("E", 2), ("E", 1), ("S", 0)]);
-    let right: Vec<_> = tables.productions()[1].symbols().collect();
+    assert_eq!(names, [("E", 1), ("E", 2), ("S", 0)]);
+    let right: Vec<_> = tables.productions()[0].symbols().collect();
     assert_eq!(right, [Nonterminal("E"), Literal("+"), Literal("n")]);
     let first = &tables.states()[0];
     assert_eq!(
