@@ -3,6 +3,7 @@
 Answers each question by the package `lr1`: by `ask`, and again by the typed call for it, if there is
 one. Where the two differ, the answer is a text on that, with the status 255.
 """
+import functools
 import json
 import struct
 import sys
@@ -26,6 +27,12 @@ def questions_of(rest):
         yield text.decode(), words.decode().split("\0"), rest[at - 1] == 1
 
 
+@functools.lru_cache(maxsize=None)
+def tables_of(text, start, canonical):
+    """The tables of a grammar, which several questions name."""
+    return lr1.Grammar(text).tables(start, canonical)
+
+
 def parsed(tables, limit, tokens):
     """What `lrtab` prints of a parse."""
     try:
@@ -42,14 +49,13 @@ def parsed(tables, limit, tokens):
 def typed(text, words, canonical):
     """What the typed call for these words returns, as the text of the answer, or None if there is none."""
     start, verb, *arguments = [*words, ""][: max(2, len(words))]
-    grammar = lr1.Grammar(text)
     if verb == "parse" and arguments and arguments[0].isdecimal() and int(arguments[0]) < 1 << 64:
-        return parsed(grammar.tables(start, canonical), arguments[0], arguments[1:])
+        return parsed(tables_of(text, start, canonical), arguments[0], arguments[1:])
     if verb in ("report", "explain") and not arguments:
-        return getattr(grammar.tables(start, canonical), verb)()
+        return getattr(tables_of(text, start, canonical), verb)()
     if (verb, arguments) == ("check", ["--json"]):
-        return [vars(it) for it in grammar.check(start)]
-    return grammar.tables(start, canonical).data if (verb, arguments) == ("json", []) else None
+        return [vars(it) for it in lr1.Grammar(text).check(start)]
+    return tables_of(text, start, canonical).data if (verb, arguments) == ("json", []) else None
 
 
 def answer_of(text, words, canonical):

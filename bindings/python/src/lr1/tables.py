@@ -23,6 +23,9 @@ class Tables:
         self.canonical = canonical
         self.data: Dict[str, Any] = json.loads(self._asked("json"))
 
+    def __repr__(self) -> str:
+        return f"<Tables for {self.start} with {len(self.states)} states and {len(self.conflicts)} conflicts>"
+
     def _asked(self, *words: str) -> str:
         """The answer to a question on these tables. A fault raises GrammarError."""
         answer = ask(self.text, [self.start, *words], self.canonical)
