@@ -7,7 +7,7 @@ import re
 from typing import Any, Dict, Iterable, List, Optional
 
 from ._library import FAULT, ask
-from .errors import ConflictsError, GrammarError, LimitError, RefusedError
+from .errors import ConflictsError, GrammarError, LimitError, Lr1Error, RefusedError
 from .trees import Node, tree_of
 
 
@@ -75,7 +75,9 @@ class Tables:
             raise ConflictsError(int(found[1]))
         if found := re.match(r'refused at (?:"(.*)"|Eof)\n', text, re.DOTALL):
             raise RefusedError(found[1])
-        raise LimitError(limit)
+        if text == "limit\n":
+            raise LimitError(limit)
+        raise Lr1Error(f"an answer of another form: {text!r}")
 
     def report(self) -> str:
         """The states as a text, with their conflicts."""
