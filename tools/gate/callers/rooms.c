@@ -1,8 +1,8 @@
 /*
  * rooms QUESTIONS ANSWERS
  *
- * Asks each question with no room, with one of ROOMS, and with enough room. Statuses, lengths and
- * bytes must be the same each time. Text, words and room each end before memory that no program may
+ * Asks each question with one of ROOMS, and again with just enough room. Statuses, lengths and bytes
+ * must be the same each time. Text, words and room each end before memory that no program may
  * touch, and what is around the room must stay as it is. The whole answers go to a file, each as its
  * status, its length in four bytes, and its bytes.
  */
@@ -53,6 +53,13 @@ struct call {
     size_t length;
 };
 
+/* Whether all of at least one byte are FILL. */
+static bool is_filled(const uint8_t *bytes, size_t length)
+{
+    return *bytes == FILL && memcmp(bytes, bytes + 1, length - 1) == 0;
+}
+
+/* Asks with a room, and checks that nothing around the answer was written. */
 static uint8_t *ask(struct call *it, size_t room, uint8_t *status)
 {
     uint8_t *out = place(&it->room, room);
@@ -60,35 +67,40 @@ static uint8_t *ask(struct call *it, size_t room, uint8_t *status)
     it->length = (size_t)-1;
     *status = lr1_ask(it->text, it->asked.text.length, it->words, it->asked.words.length,
                       it->asked.canonical, out, room, &it->length);
-    for (size_t at = 0; at < GUARD; at++)
-        if (out[at - GUARD] != FILL)
-            fault(it->number, "a byte before the room was written");
-    for (size_t at = it->length; at < room; at++)
-        if (out[at] != FILL)
-            fault(it->number, "a byte after the answer was written");
+    if (!is_filled(out - GUARD, GUARD))
+        fault(it->number, "a byte before the room was written");
+    if (it->length < room && !is_filled(out + it->length, room - it->length))
+        fault(it->number, "a byte after the answer was written");
+    return out;
+}
+
+/* Asks again with a room. The status and the length must be as before. */
+static const uint8_t *ask_again(struct call *it, size_t room, uint8_t status)
+{
+    uint8_t again;
+    size_t length = it->length;
+    const uint8_t *out = ask(it, room, &again);
+    if (again != status || it->length != length)
+        fault(it->number, "another status or length with another room");
     return out;
 }
 
 /* Asks with a room, and again with enough. Returns the answer. */
 static const uint8_t *ask_twice(struct call *it, long kind, uint8_t *status)
 {
-    uint8_t again;
-    ask(it, 0, status);
-    size_t length = it->length, room = kind == EXACT ? length : (size_t)kind;
-    size_t had = room < length ? room : length;
+    const uint8_t *out = ask(it, kind == EXACT ? 0 : (size_t)kind, status);
+    if (kind == EXACT)
+        out = ask_again(it, it->length, *status);
+    size_t room = kind == EXACT ? it->length : (size_t)kind, had = room < it->length ? room : it->length;
     uint8_t *first = malloc(had + 1);
     if (first == NULL)
         exit(2);
-    memcpy(first, ask(it, room, &again), had);
-    if (again != *status || it->length != length)
-        fault(it->number, "another status or length with another room");
-    const uint8_t *whole = ask(it, length, &again);
-    if (again != *status || it->length != length)
-        fault(it->number, "another status or length with enough room");
-    if (memcmp(first, whole, had) != 0)
-        fault(it->number, "other bytes with less room");
+    memcpy(first, out, had);
+    out = ask_again(it, it->length, *status);
+    if (memcmp(first, out, had) != 0)
+        fault(it->number, "other bytes with another room");
     free(first);
-    return whole;
+    return out;
 }
 
 static void write_answer(FILE *to, uint8_t status, const uint8_t *answer, size_t length)

@@ -41,7 +41,7 @@ uint8_t lr1_ask(const uint8_t *text, size_t text_length, const uint8_t *words, s
         out[words_length] = 0;
     if (FAULT == BEHIND)
         out[room] = 0;
-    if (FAULT == LENGTH && room > 100)
+    if (FAULT == LENGTH && room > 1000)
         *length = words_length + 1;
     if (FAULT == BYTES && room == 1 && words_length > 1)
         out[0] = 0;
@@ -58,7 +58,7 @@ QUESTIONS = [Question(b"S = x", words, number % 2 == 1) for number, words in enu
 # The number of a fault, and what the program prints of it.
 ROOM_FAULTS = (
     (1, "a byte before the room was written"), (2, "a byte after the answer was written"), (3, "status -11"),
-    (4, "another status or length"), (5, "another status or length"), (6, "other bytes with less room"),
+    (4, "another status or length"), (5, "another status or length"), (6, "other bytes with another room"),
     (7, "status -11"), (8, "status -11"),
 )
 CASES = [
