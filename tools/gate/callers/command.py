@@ -3,7 +3,7 @@
 Calls the library for C from C, Rust and Python. LIBRARY is a folder that `tools/build --library`
 filled. If none is given, it is made here, over what `rt ci` and `rt check` keep, and so is proved.
 
-- The names that the library defines are those that its header declares, and no others.
+- The names that the library defines are those that its header and the bindings declare, and no others.
 - The header compiles as C99 and as C++, and the examples on the pages of the bindings print what the
   pages say. The bindings pass their own tests.
 - Each stored case of `lrtab` has the expected answer, by each binding. So have the data of `lrshow`,

@@ -35,14 +35,19 @@ def compiled(library, room, name, source, *flags, by=C):
 
 
 def names(library, _room):
-    """The names that both forms of the library define, beside those that the header declares."""
-    declared = set(re.findall(r"(?m)^\w+ (lr1_\w+)\(", read(f"{BINDINGS}/c/lr1.h")))
-    faults = []
-    for words in (("-g", "liblr1.a"), ("-D", "liblr1.so")):
-        said = ran("nm", words[0], "--defined-only", f"{library}/{words[1]}")
-        defined = set(re.findall(r"(?m)^[0-9a-f]+ [A-Z] (\w+?)(?:@@\w+)?$", said)) - {"LR1_1"}
-        if defined != declared:
-            faults.append(f"{words[1]} defines {sorted(defined)}, and lr1.h declares {sorted(declared)}")
+    """The names that both forms of the library define, and those that the bindings declare. They must be
+    those that the header declares."""
+    declared = re.findall(r"(?m)^\w+ (lr1_\w+)\(", read(f"{BINDINGS}/c/lr1.h"))
+    found = {
+        "lr1-sys": re.findall(r"pub fn (lr1_\w+)\(", read(f"{BINDINGS}/rust/lr1-sys/src/lib.rs")),
+        "_library.py": re.findall(r"library\.(lr1_\w+)\.argtypes", read(f"{BINDINGS}/python/src/lr1/_library.py")),
+    }
+    for flag, name in (("-g", "liblr1.a"), ("-D", "liblr1.so")):
+        said = ran("nm", flag, "--defined-only", f"{library}/{name}")
+        # (LR1_1 is the version of the names of the shared library)
+        found[name] = [it for it in re.findall(r"(?m) [A-Z] (\w+?)(?:@@\w+)?$", said) if it != "LR1_1"]
+    wrong = {name: some for name, some in found.items() if sorted(some) != sorted(declared)}
+    faults = [f"{name} has {sorted(some)}, and lr1.h declares {sorted(declared)}" for name, some in wrong.items()]
     return f"{len(declared)} calls", faults
 
 

@@ -10,7 +10,7 @@ from gate.files import ROOT, read
 HERE = os.path.dirname(os.path.realpath(__file__))
 BINDINGS = f"{ROOT}/bindings"
 # How many seconds a command has.
-LIMIT = 600
+LIMIT = 900
 # How many lines of a failed command are printed.
 LINES = 30
 
@@ -23,10 +23,12 @@ def ran(*command, folder=None, **variables):
     """What a command prints. A status other than 0 raises Failed."""
     environment = {**os.environ, "PYTHONDONTWRITEBYTECODE": "1", **variables}
     how = {"stdin": subprocess.DEVNULL, "stdout": subprocess.PIPE, "stderr": subprocess.STDOUT, "timeout": LIMIT}
-    ended = subprocess.run(command, cwd=folder, env=environment, text=True, errors="replace", check=False, **how)
+    try:
+        ended = subprocess.run(command, cwd=folder, env=environment, text=True, errors="replace", check=False, **how)
+    except subprocess.TimeoutExpired as late:
+        raise Failed(f"no end in {LIMIT} seconds: {' '.join(command)}") from late
     if ended.returncode:
-        lines = ended.stdout.splitlines()[-LINES:]
-        name = os.path.basename(command[0])
+        name, lines = os.path.basename(command[0]), ended.stdout.splitlines()[-LINES:]
         raise Failed("\n".join([f"{name} ended with status {ended.returncode}: {' '.join(command)}", *lines]))
     return ended.stdout
 
