@@ -38,14 +38,14 @@ enum lr1_status {
 uint32_t lr1_version(void);
 
 /*
- * Answers a question on a grammar, as the programs lrtab and lrshow do.
+ * Writes what the program lrtab or lrshow prints of a grammar.
  *
  * text       the grammar, one production in a line:
  *                S = E
  *                E = E "+" "n"
  *                E = "n"
- * words      the words after FILE on the command line of lrtab or lrshow, with a byte 0 between two
- *            of them: START, what is asked, and its arguments. Some questions on S are
+ * words      the words after FILE on the command line of the program, in UTF-8, with a byte 0
+ *            between two of them: START, what is asked, and its arguments. Some questions on S are
  *                "S\0parse\0" "100\0n\0+\0n"   a parse of the tokens n + n in at most 100 steps
  *                "S\0json"                     the tables or the conflicts, for programs
  *                "S\0report"                   the tables or the conflicts, for people

@@ -1,7 +1,7 @@
 """answer.py QUESTIONS ANSWERS
 
-Answers each question by the package `lr1`: by `ask`, and again by the typed call for it, if there is
-one. Where the two differ, the answer is a text on that, with the status 255.
+Asks each question by the package `lr1`: by `ask`, and again by the typed call for it, if there is one.
+If the two differ, the answer is a text on that, with the status 255.
 """
 import functools
 import json

@@ -1,7 +1,7 @@
 //! answer QUESTIONS ANSWERS
 //!
-//! Answers each question by `lr1::ask`, and again by the typed call for it, if there is one. Where
-//! the two differ, the answer is a text on that, with the status 255.
+//! Asks each question by `lr1::ask`, and again by the typed call for it, if there is one. If the two
+//! differ, the answer is a text on that, with the status 255.
 
 use lr1::{ask, Error, Grammar, Method, ParseOutcome, Status, Tables};
 use std::{env, fs, io, str};

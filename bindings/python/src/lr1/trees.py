@@ -60,7 +60,7 @@ Child = Union[Node, str]
 
 
 def tree_of(text: str) -> Node:
-    """The tree that a text stands for."""
+    """The tree of a text."""
     top = Node("", [])
     open_nodes = [top]
     for part in _PART.finditer(text):

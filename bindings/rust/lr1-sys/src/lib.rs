@@ -18,8 +18,8 @@ extern "C" {
     /// Returns the version of the calls that are linked.
     pub fn lr1_version() -> u32;
 
-    /// Answers a question on a grammar, as the programs `lrtab` and `lrshow` do. `words` are those
-    /// after FILE on the command line, with a byte 0 between two of them. As much of the answer as
+    /// Writes what the program `lrtab` or `lrshow` prints of a grammar. `words` are those after FILE
+    /// on the command line of the program, with a byte 0 between two of them. As much of the answer as
     /// fits goes to `out`, and the number of its bytes to `length`.
     ///
     /// # Safety

@@ -21,7 +21,7 @@ struct Place {
 }
 
 impl Tree {
-    /// The tree that a text stands for.
+    /// The tree of a text.
     pub(crate) fn of(text: &str) -> Option<Tree> {
         let text = text.strip_suffix('\n')?.to_string();
         let (mut nodes, mut open, mut at) = (Vec::new(), Vec::new(), 0);
