@@ -4,12 +4,29 @@
 //! differ, the answer is a text on that, with the status 255.
 
 use lr1::{ask, Error, Grammar, Method, ParseOutcome, Status, Tables};
+use std::collections::HashMap;
 use std::{env, fs, io, str};
+
+/// The tables of a grammar text, a start symbol and a method, which several questions name.
+#[derive(Default)]
+struct Made(HashMap<(String, String, bool), Result<Tables, Error>>);
+
+impl Made {
+    fn tables(&mut self, text: &str, start: &str, method: Method) -> Result<&Tables, Error> {
+        let key = (text.to_string(), start.to_string(), method == Method::Canonical);
+        let made = self
+            .0
+            .entry(key)
+            .or_insert_with(|| Grammar::from_text(text).tables_by(start, method));
+        made.as_ref().map_err(Error::clone)
+    }
+}
 
 fn main() -> io::Result<()> {
     let paths: Vec<String> = env::args().skip(1).collect();
     let bytes = fs::read(&paths[0])?;
     let (mut rest, mut answers, mut count) = (&bytes[..], Vec::new(), 0);
+    let mut made = Made::default();
     while !rest.is_empty() {
         let (text, words) = (part(&mut rest), part(&mut rest));
         let method = if take(&mut rest, 1)[0] == 1 {
@@ -17,7 +34,7 @@ fn main() -> io::Result<()> {
         } else {
             Method::Lane
         };
-        let (status, answer) = answer(text, words, method);
+        let (status, answer) = answer(&mut made, text, words, method);
         answers.push(status);
         answers.extend((answer.len() as u32).to_le_bytes());
         answers.extend(answer.as_bytes());
@@ -41,13 +58,13 @@ fn part<'bytes>(rest: &mut &'bytes [u8]) -> &'bytes str {
     str::from_utf8(take(rest, length as usize)).expect("the stored cases are UTF-8")
 }
 
-fn answer(text: &str, words: &str, method: Method) -> (u8, String) {
+fn answer(made: &mut Made, text: &str, words: &str, method: Method) -> (u8, String) {
     let words: Vec<&str> = words.split('\0').collect();
     let answer = match ask(text, &words, method) {
         Ok(answer) => answer,
         Err(error) => return (255, format!("{error:?}")),
     };
-    let typed = typed(text, &words, method);
+    let typed = typed(made, text, &words, method);
     if typed.as_ref().is_some_and(|it| *it != answer.text) {
         return (
             255,
@@ -63,41 +80,33 @@ fn answer(text: &str, words: &str, method: Method) -> (u8, String) {
 }
 
 /// What the typed call returns, as the text of the answer.
-fn typed(text: &str, words: &[&str], method: Method) -> Option<String> {
+fn typed(made: &mut Made, text: &str, words: &[&str], method: Method) -> Option<String> {
     let [start, verb, arguments @ ..] = words else {
         return None;
     };
-    match made(text, start, verb, arguments, method) {
-        Ok(made) => made,
+    let returned = match (*verb, arguments) {
+        ("parse", [limit, tokens @ ..]) if limit.parse::<u64>().is_ok() && !limit.starts_with('+') => made
+            .tables(text, start, method)
+            .and_then(|it| parse(it, limit, tokens)),
+        ("report", []) => made.tables(text, start, method).and_then(Tables::report),
+        ("explain", []) => made.tables(text, start, method).and_then(Tables::explain),
+        ("json", []) => made.tables(text, start, method).map(|it| it.json().to_string()),
+        // (no text is made of the list, but each member is read)
+        ("check", ["--json"]) => {
+            return Grammar::from_text(text)
+                .check(start)
+                .err()
+                .map(|it| it.to_string())
+        }
+        _ => return None,
+    };
+    match returned {
+        Ok(returned) => Some(returned),
         Err(Error::Fault(message)) => Some(format!("{message}\n")),
         // (the library has one text for all wrong words)
         Err(Error::Name(_)) => None,
         Err(error) => Some(format!("{error:?}")),
     }
-}
-
-fn made(
-    text: &str,
-    start: &str,
-    verb: &str,
-    words: &[&str],
-    method: Method,
-) -> Result<Option<String>, Error> {
-    let tables = || Grammar::from_text(text).tables_by(start, method);
-    Ok(Some(match (verb, words) {
-        ("parse", [limit, tokens @ ..]) if limit.parse::<u64>().is_ok() && !limit.starts_with('+') => {
-            parse(&tables()?, limit, tokens)?
-        }
-        ("report", []) => tables()?.report()?,
-        ("explain", []) => tables()?.explain()?,
-        ("json", []) => tables()?.json().to_string(),
-        ("check", ["--json"]) => {
-            // (no text is made of the list, but each member is read)
-            Grammar::from_text(text).check(start)?;
-            return Ok(None);
-        }
-        _ => return Ok(None),
-    }))
 }
 
 fn parse(tables: &Tables, limit: &str, tokens: &[&str]) -> Result<String, Error> {
