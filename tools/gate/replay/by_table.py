@@ -6,8 +6,9 @@ deep, and for one of a million nodes.
 Then it compares what `parse_replay FILE START expected` prints with what trials find, after the
 tokens of each case that has tables, and after each beginning of them. A terminal is expected if
 `lrtab` does not refuse it after them. The end is expected if `lrtab` prints a tree of them. If
-`lrtab` refuses one of the tokens, both programs must print so. A start symbol on a right side is
-left out, since no clause says what is expected then. How many lists are left out is printed.
+`lrtab` refuses one of the tokens, both programs must print so. No clause says what is expected if
+the start symbol is on a right side. Those tables are compared, too. How many lists have one is
+printed.
 PROGRAM is crates/parse_replay/out/parse_replay, and LRTAB is crates/lrtab/out/lrtab. `rt ci` and
 `rt run` leave them there. CASES is the folder crates/lrtab/cases. Others can be given. The stack is
 1 MB. The status is 0 if all agree, and there are some cases and some lists.
@@ -124,12 +125,11 @@ def deep_difference(program, run):
 def compared(pool, program, lrtab, cases, grammars):
     """The texts on the expected tokens of all lists. It prints how many lists there are."""
     found = [(Tables(program, lrtab, it, grammars[it[0]]), lists) for it, lists in lists_of(cases).items()]
-    asked = [it for it in found if it[0].has_clause()]
-    left_out = [it for it in found if it not in asked]
-    results = [more for it in pool.map(lambda it: it[0].differences(it[1]), asked) for more in it]
-    beginnings, parses = sum(it.beginnings for it, _ in asked), sum(len(it.parses) for it, _ in asked)
-    print(f"lists: {beginnings} that are read, {len(results) - beginnings} others, of {len(asked)} tables")
-    print(f"left out: {sum(len(it) for _, it in left_out)} lists, of {len(left_out)} tables")
+    without = [it for it in found if not it[0].has_clause()]
+    results = [more for it in pool.map(lambda it: it[0].differences(it[1]), found) for more in it]
+    beginnings, parses = sum(it.beginnings for it, _ in found), sum(len(it.parses) for it, _ in found)
+    print(f"lists: {beginnings} that are read, {len(results) - beginnings} others, of {len(found)} tables")
+    print(f"start symbol on a right side: {sum(len(it) for _, it in without)} lists, of {len(without)} tables")
     print(f"parses by lrtab: {parses}")
     return results
 

@@ -12,7 +12,7 @@ SCRIPT = """#!/bin/sh
 case "$1" in
 deep) echo '[S: "x"]'; exit ;;
 conflicts) echo "conflicts: 3"; exit 1 ;;
-right) echo "refused at Eof"; exit 1 ;;
+right) [ $3 = parse ] || { echo '"a"'; exit; }; echo "refused at Eof"; exit 1 ;;
 fault) echo "line 1: not a grammar line" >&2; exit 2 ;;
 esac
 verb=$3
@@ -58,9 +58,10 @@ class ByTable(CommandTest):
             ("the cases", 0, "parse cases by table: 12 agree, 0 differ\n"),
             ("each method", 0, "parse by Canonical: 6 of 6 agree\n"),
             ("the deep run", 0, "deep runs by table: 1 agree, 0 differ\n"),
-            ("the expected tokens", 0, "expected tokens by table: 12 agree, 0 differ\n"),
-            ("lists", 0, "lists: 6 that are read, 6 others, of 2 tables\nleft out: 2 lists, of 2 tables\n"),
-            ("each parse once", 0, "parses by lrtab: 18\n"),
+            ("the expected tokens", 0, "expected tokens by table: 14 agree, 0 differ\n"),
+            ("lists", 0, "lists: 8 that are read, 6 others, of 4 tables\n"),
+            ("lists without a clause", 0, "start symbol on a right side: 2 lists, of 2 tables\n"),
+            ("each parse once", 0, "parses by lrtab: 22\n"),
         ))
 
     def test_wrong_programs(self):
@@ -76,12 +77,14 @@ class ByTable(CommandTest):
             ("another deep tree", 1, "differs: deep run one: standard output from place 5 on", '"x"', '"y"'),
             ("a deep run's signal", 1, "differs: deep run one: expected status 0", "exit ;;", "kill -SEGV $$ ;;"),
             ("no token", 1, "expected by Lane for S of g after nothing: stdout, line 1: expected", token, "exit"),
+            ("without a clause", 1, "for S of right after nothing: stdout, line 1: expected '\"a\"', got ''",
+             "echo '\"a\"'; exit", "exit"),
             ("a token more", 1, "after é: stdout, line 2: expected '', got 'Eof'", token, f"{token[:-4]} {end}"),
             ("no end", 1, "after é a: stdout, line 1: expected 'Eof', got ''", end, "exit"),
             ("the end twice", 1, "after é a: stdout, line 2: expected '', got 'Eof'", end, f"echo Eof; {end}"),
             ("a status", 1, "after é a: status: expected 0, got 1", end, f"{end} 1"),
             ("an error", 1, "after é a: stderr, line 1: expected '', got 'so'", end, f"echo so >&2; {end}"),
-            ("how many differ", 1, "expected tokens by table: 10 agree, 2 differ\n", end, "exit"),
+            ("how many differ", 1, "expected tokens by table: 12 agree, 2 differ\n", end, "exit"),
         ))
 
     def test_wrong_trials(self):
@@ -98,8 +101,8 @@ class ByTable(CommandTest):
         """A start symbol that is no longer on a right side, and no cases at all."""
         grammars, cases = GRAMMARS["right"], "".join(json.dumps(it) + "\n" for it in CASES)
         self.check(by_scripts, (
-            ("a start symbol on no right side", 1, "of 4 tables\nleft out: 0 lists, of 0 tables\n", "grammars.jsonl",
-             json.dumps(grammars), json.dumps('S = "a" T')),
+            ("a start symbol on no right side", 0, "start symbol on a right side: 0 lists, of 0 tables\n",
+             "grammars.jsonl", json.dumps(grammars), json.dumps('S = "a" T')),
             ("no cases", 1, "parse cases by table: 0 agree, 0 differ\n", "cases_g.jsonl", cases, ""),
             ("no tables", 1, "lists: 0 that are read, 0 others, of 0 tables\n", "cases_g.jsonl", cases,
              json.dumps(case("fault/S parse 9 x/Lane", 2, "", FAULT)) + "\n"),
