@@ -7,7 +7,8 @@ ghost use Rattle.lr1_calls.specs.Copied.{filled, IsCopied, IsGiven, IsShownGiven
 use lalrpop_base::text::Text;
 use program_answers::answer::{Answer, Shown};
 
-const USAGE: &str = "usage: START (parse LIMIT TOKEN.. | report | explain | check [--json] | conflicts | tree [--dot] TOKEN.. | json | dot [--around STATE [--depth N] | --conflicts] | html)\n";
+const USAGE: &str =
+    "usage: START (parse LIMIT TOKEN.. | report | explain | check [--json] | conflicts | tree [--dot] TOKEN.. | json | dot [--around STATE [--depth N] | --conflicts] | html)\n";
 
 /// Copies the text of a result to `out`, as much of it as fits. `length` becomes the length of the
 /// whole text. Returns the status.

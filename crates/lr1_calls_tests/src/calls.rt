@@ -70,7 +70,10 @@ fn expect(
         let (out, length, status) = asked(alloc, text, words, true, room)?;
         assert_eq!(rt; status, expected.0);
         assert_eq!(rt; length, whole.len());
-        assert!(rt; has_text(&out, whole), "another text in a room of {room} bytes");
+        assert!(rt;
+            has_text(&out, whole),
+            "another text in a room of {room} bytes"
+        );
     }
     Ok(())
 }
@@ -87,7 +90,13 @@ fn results_of_lrtab(rt: HostRuntime) -> Result<(), Fail> {
         (TWO_EMPTY, "S\0explain", 1, EXPLANATION),
         ("what", "S\0report", 2, "line 1: not a grammar line\n"),
     ] {
-        expect(&rt, alloc, text.as_bytes(), words.as_bytes(), (status, wanted))?;
+        expect(
+            &rt,
+            alloc,
+            text.as_bytes(),
+            words.as_bytes(),
+            (status, wanted),
+        )?;
     }
     Ok(())
 }
@@ -100,11 +109,22 @@ fn results_of_lrshow(rt: HostRuntime) -> Result<(), Fail> {
     for (text, words, status, wanted) in [
         (ONE_TERMINAL, "S\0json", 0, DATA),
         (ONE_TERMINAL, "S\0dot\0--around\07", 2, "no state 7\n"),
-        (ONE_TERMINAL, "S\0tree\0x\0x", 1, "token 2, \"x\", is wrong; expected: Eof\n"),
+        (
+            ONE_TERMINAL,
+            "S\0tree\0x\0x",
+            1,
+            "token 2, \"x\", is wrong; expected: Eof\n",
+        ),
         (TWO_EMPTY, "S\0tree", 1, "conflicts: 1\n"),
         ("what", "S\0json", 2, "line 1: not a grammar line\n"),
     ] {
-        expect(&rt, alloc, text.as_bytes(), words.as_bytes(), (status, wanted))?;
+        expect(
+            &rt,
+            alloc,
+            text.as_bytes(),
+            words.as_bytes(),
+            (status, wanted),
+        )?;
     }
     Ok(())
 }
@@ -113,8 +133,23 @@ fn results_of_lrshow(rt: HostRuntime) -> Result<(), Fail> {
 #[test]
 fn words_that_are_no_request(rt: HostRuntime) -> Result<(), Fail> {
     let alloc = rt.alloc();
-    for words in ["", "S", "S\0", "S\0json\0", "\0S\0json", "S\0parse\0x", "1\0json", "--help"] {
-        expect(&rt, alloc, ONE_TERMINAL.as_bytes(), words.as_bytes(), (2, USAGE))?;
+    for words in [
+        "",
+        "S",
+        "S\0",
+        "S\0json\0",
+        "\0S\0json",
+        "S\0parse\0x",
+        "1\0json",
+        "--help",
+    ] {
+        expect(
+            &rt,
+            alloc,
+            ONE_TERMINAL.as_bytes(),
+            words.as_bytes(),
+            (2, USAGE),
+        )?;
     }
     let no_text: &[u8] = &[83, 0, 255];
     expect(&rt, alloc, ONE_TERMINAL.as_bytes(), no_text, (2, USAGE))
@@ -126,7 +161,13 @@ fn text_that_is_not_utf8(rt: HostRuntime) -> Result<(), Fail> {
     let alloc = rt.alloc();
     let no_text: &[u8] = &[83, 32, 61, 32, 34, 255, 34];
     for words in ["S\0report", "S\0json"] {
-        expect(&rt, alloc, no_text, words.as_bytes(), (2, "cannot read grammar\n"))?;
+        expect(
+            &rt,
+            alloc,
+            no_text,
+            words.as_bytes(),
+            (2, "cannot read grammar\n"),
+        )?;
     }
     Ok(())
 }

@@ -28,7 +28,11 @@ impl Attempt for Call<'_> {
             return Some(false);
         };
         if status == 3 {
-            return if told == OUT_OF_MEMORY { None } else { Some(false) };
+            return if told == OUT_OF_MEMORY {
+                None
+            } else {
+                Some(false)
+            };
         }
         Some(status == 0 && told == self.wanted)
     }
