@@ -24,17 +24,22 @@ impl Attempt for Call<'_> {
         let mut length = 0;
         let text = ONE_TERMINAL.as_bytes();
         let status = ask(alloc, text, self.words, true, &mut self.out, &mut length);
-        let Some(told) = self.out.get(..length) else {
-            return Some(false);
-        };
         if status == 3 {
-            return if told == OUT_OF_MEMORY {
+            return if is_text(&self.out, length, OUT_OF_MEMORY) {
                 None
             } else {
                 Some(false)
             };
         }
-        Some(status == 0 && told == self.wanted)
+        Some(status == 0 && is_text(&self.out, length, self.wanted))
+    }
+}
+
+// Whether the first bytes of a room, as many as `length`, are a text.
+fn is_text(out: &[u8], length: usize, text: &[u8]) -> bool {
+    match out.get(..length) {
+        Some(first) => first == text,
+        None => false,
     }
 }
 
