@@ -1,7 +1,7 @@
 """tools/run callers [LIBRARY]
 
 Calls the library for C from C, Rust and Python. LIBRARY is a folder that `tools/build --library`
-filled. If none is given, it is made here, over what `rt ci` and `rt check` keep, and so is proved.
+filled. If none is given, it is made over the libraries that `rt ci` left, and so is proved.
 
 - The names that the library defines are those that its header and the bindings declare, and no others.
 - The header compiles as C99 and as C++, and the examples on the pages of the bindings print what the
@@ -26,6 +26,7 @@ import tempfile
 
 from gate.callers import in_c, in_python, in_rust
 from gate.callers.asked import Cases
+from gate.callers.library import proved_archive
 from gate.callers.parts import Failed
 from gate.files import ROOT
 from gate.programs import arguments
@@ -39,7 +40,8 @@ def library_of(given, room):
     """The folder of the library, which is made if none is given."""
     folder = os.path.realpath(given or f"{room}/library")
     if given is None:
-        subprocess.run([f"{ROOT}/tools/build", "--library", folder], check=True)
+        archive = proved_archive(room)
+        subprocess.run([f"{ROOT}/tools/build", "--library", "of", archive, folder], check=True)
     for it in ("liblr1.a", "liblr1.so", "lr1.h"):
         if not os.path.isfile(f"{folder}/{it}"):
             sys.exit(f"{folder} has no {it} (tools/build --library makes it)")

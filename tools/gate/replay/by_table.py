@@ -7,7 +7,8 @@ Then it compares what `parse_replay FILE START expected` prints with what trials
 tokens of each case that has tables, and after each beginning of them. A terminal is expected if
 `lrtab` does not refuse it after them. The end is expected if `lrtab` prints a tree of them. If
 `lrtab` refuses one of the tokens, both programs must print so. No clause says what is expected if
-the start symbol is on a right side. Those tables are compared, too. How many lists have one is
+the start symbol is on a right side. Those tables are compared, too. There a run may never end: a
+list of which a trial reaches the limit is left out. How many lists of both kinds there are is
 printed.
 PROGRAM is crates/parse_replay/out/parse_replay, and LRTAB is crates/lrtab/out/lrtab. `rt ci` and
 `rt run` leave them there. CASES is the folder crates/lrtab/cases. Others can be given. The stack is
@@ -43,6 +44,10 @@ DEEP = {it: deep.DEEP[it] for it in ("right_recursion", "left_recursion", "refus
 DEEP["million_nodes"] = lambda: doubled(20)
 
 
+class NotDecided(Exception):
+    """A trial that reaches the limit, by a table whose start symbol is on a right side."""
+
+
 class Tables:
     """The tables of a grammar for a start symbol by a method, of which both programs are asked."""
 
@@ -52,7 +57,7 @@ class Tables:
         self.grammar = reading.read(text)
         literals = reading.literals_of(self.grammar.rules)
         self.terminals = sorted(literals, key=lambda it: it[1:-1].encode())
-        self.parses, self.beginnings = {}, 0
+        self.parses, self.read, self.left_out = {}, set(), 0
 
     def has_clause(self):
         """Whether the start symbol is on no right side, after inlining."""
@@ -67,6 +72,8 @@ class Tables:
         if tokens not in self.parses:
             self.parses[tokens] = self.asked(self.lrtab, "parse", tokens)
         result = self.parses[tokens]
+        if result["stdout"] == b"limit\n" and not self.has_clause():
+            raise NotDecided(tokens)
         found = re.fullmatch(r"refused at (.+)\n", result["stdout"].decode(errors="replace"), re.DOTALL)
         is_right = result["status"] == (1 if found else 0) and not result["stderr"]
         expect(is_right, f"lrtab prints {result['stdout']!a} for {tokens}, with status {result['status']}")
@@ -83,10 +90,21 @@ class Tables:
         refused = self.refused(tokens)
         if refused not in (None, END):
             return {"status": 1, "stdout": f"refused at {refused}\n", "stderr": ""}
-        self.beginnings += 1
         names = [it for it in self.terminals if self.may_follow(tokens, it)]
+        self.read.add(tokens)
         names += [END] if refused is None else []
         return {"status": 0, "stdout": "".join(f"{it}\n" for it in names), "stderr": ""}
+
+    def is_decided(self, tokens):
+        """Whether no trial of the list reaches the limit. If one does, the list is left out."""
+        try:
+            self.expected(tokens)
+        except NotDecided:
+            self.left_out += 1
+            return False
+        except WrongData:
+            pass
+        return True
 
     def difference(self, tokens):
         """A text on how the expected tokens differ from those that the trials find, or None."""
@@ -98,7 +116,8 @@ class Tables:
     def differences(self, lists):
         """A name for each list of tokens, and the text on it."""
         name = f"expected by {self.method} for {self.start} of {self.file} after"
-        return [({"name": f"{name} {' '.join(it) or 'nothing'}"}, self.difference(it)) for it in lists]
+        decided = [it for it in lists if self.is_decided(it)]
+        return [({"name": f"{name} {' '.join(it) or 'nothing'}"}, self.difference(it)) for it in decided]
 
 
 def lists_of(cases):
@@ -127,9 +146,10 @@ def compared(pool, program, lrtab, cases, grammars):
     found = [(Tables(program, lrtab, it, grammars[it[0]]), lists) for it, lists in lists_of(cases).items()]
     without = [it for it in found if not it[0].has_clause()]
     results = [more for it in pool.map(lambda it: it[0].differences(it[1]), found) for more in it]
-    beginnings, parses = sum(it.beginnings for it, _ in found), sum(len(it.parses) for it, _ in found)
+    beginnings, parses = sum(len(it.read) for it, _ in found), sum(len(it.parses) for it, _ in found)
     print(f"lists: {beginnings} that are read, {len(results) - beginnings} others, of {len(found)} tables")
     print(f"start symbol on a right side: {sum(len(it) for _, it in without)} lists, of {len(without)} tables")
+    print(f"left out: {sum(it.left_out for it, _ in found)} lists of which a trial reaches the limit")
     print(f"parses by lrtab: {parses}")
     return results
 

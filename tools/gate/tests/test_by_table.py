@@ -90,6 +90,8 @@ class ByTable(CommandTest):
     def test_wrong_trials(self):
         """Parses by `lrtab` that are others than those by the table, or that say nothing."""
         self.check(lambda *change: by_scripts("lrtab", *change), (
+            ("a limit without a clause", 0, "left out: 2 lists of which a trial reaches the limit\n",
+             'echo "refused at Eof"', "echo limit"),
             ("a longer sentence", 1, "after é a: stdout, line 1: expected '\"a\"', got 'Eof'", "[ $# = 0 ] ||", ": ||"),
             ("a limit", 1, "after é: lrtab prints b'limit\\n' for ", "shift 4\n", f"shift 4\n{SECOND.format('limit')}"),
             ("an earlier refusal", 1, "after é: lrtab refuses \"a\" before \"é\" after ('é',)", "shift 4\n",
