@@ -3,6 +3,8 @@
 #![tactic(auto)]
 
 #[cfg(test)]
+mod asked;
+#[cfg(test)]
 mod events;
 #[cfg(test)]
 mod expected;
@@ -14,7 +16,5 @@ mod nodes;
 mod refusals;
 #[cfg(test)]
 mod tables;
-#[cfg(test)]
-mod trees;
 #[cfg(test)]
 mod values;

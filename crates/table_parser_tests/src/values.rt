@@ -1,17 +1,18 @@
 // Values of a parse.
 
-use super::tables::{bits, table};
+use super::asked::{Ask, expect};
+use super::tables::run;
+use parse_tables::table::ParseTable;
 use std::alloc::Global;
 use std::test::Fail;
 use table_parser::error::TableParseError;
-use table_parser::events::parse_events;
 use table_parser::values::{SemanticActions, ValueError, ValueStack};
 use test_fixtures::texts::SUMS;
 
-// The value of a tree is how many terminals it has. A right side of many values stops the run.
+/// The value of a tree is how many terminals it has. A right side of many values stops the run.
 #[derive(Drop)]
-struct Counts {
-    most: usize,
+pub struct Counts {
+    pub most: usize,
 }
 
 impl SemanticActions for Counts {
@@ -41,44 +42,48 @@ impl SemanticActions for Counts {
     }
 }
 
-// The value of a parse, `None` if an action stops it, and an error otherwise.
-fn value(alloc: Global, words: &[&str], most: usize) -> Result<Option<usize>, Fail> {
-    let table = table(alloc, SUMS)?;
-    let bits = bits(alloc, &table, words)?;
+/// The value of a parse, or the production whose action stops it.
+pub fn value(alloc: Global, table: &ParseTable, bits: &[u32], most: usize) -> Result<String, Fail> {
     let mut stack = ValueStack::new(alloc, Counts { most });
-    match parse_events(alloc, &table, 1_000, bits.iter().copied(), &mut stack) {
+    let mut text = String::new(alloc);
+    match run(alloc, table, 1_000, bits, &mut stack) {
         Ok(()) => match stack.into_value() {
-            Some(value) => Ok(Some(value)),
-            None => Err(Fail::from("not one value")),
+            Some(value) => write!(text, "{value}")?,
+            None => return Err(Fail::from("not one value")),
         },
-        Err(TableParseError::Stopped(ValueError::Stopped(_))) => Ok(None),
-        Err(_) => Err(Fail::from("no parse")),
+        Err(TableParseError::Stopped(ValueError::Stopped(_))) => write!(text, "stopped")?,
+        Err(_) => return Err(Fail::from("no parse")),
     }
+    Ok(text)
 }
 
 #[test]
 fn a_value_is_made_of_those_of_the_right_side(rt: HostRuntime) -> Result<(), Fail> {
     let alloc = rt.alloc();
-    assert_eq!(rt; value(alloc, &["N"], 3)?, Some(1));
-    assert_eq!(rt; value(alloc, &["N", "-", "(", "N", ")"], 3)?, Some(5));
-    assert_eq!(rt; value(alloc, &["N", "-", "N"], 2)?, None);
-    Ok(())
+    let nested: &[&str] = &["N", "-", "(", "N", ")"];
+    expect(
+        alloc,
+        Ask::Value(3),
+        &[(SUMS, &["N"], "1"), (SUMS, nested, "5")],
+    )?;
+    expect(alloc, Ask::Value(2), &[(SUMS, &["N", "-", "N"], "stopped")])
+}
+
+/// Whether there is a value after an input that ends too early, and in a stack without a run.
+pub fn unfinished(alloc: Global, table: &ParseTable, bits: &[u32]) -> Result<String, Fail> {
+    let mut stack = ValueStack::new(alloc, Counts { most: 3 });
+    let is_parsed = run(alloc, table, 1_000, bits, &mut stack).is_ok();
+    let has_value = stack.into_value().is_some();
+    let empty = ValueStack::new(alloc, Counts { most: 3 });
+    let mut text = String::new(alloc);
+    if is_parsed || has_value || empty.into_value().is_some() {
+        write!(text, "a value")?;
+    }
+    Ok(text)
 }
 
 // Before the end there is a value for each tree on the stack.
 #[test]
 fn a_stack_with_other_values_has_none(rt: HostRuntime) -> Result<(), Fail> {
-    let alloc = rt.alloc();
-    let table = table(alloc, SUMS)?;
-    let bits = bits(alloc, &table, &["N", "-"])?;
-    let mut stack = ValueStack::new(alloc, Counts { most: 3 });
-    let parsed = parse_events(alloc, &table, 1_000, bits.iter().copied(), &mut stack);
-    assert!(rt; parsed.is_err());
-    assert!(rt; stack.into_value().is_none());
-    assert!(rt;
-        ValueStack::new(alloc, Counts { most: 3 })
-            .into_value()
-            .is_none()
-    );
-    Ok(())
+    expect(rt.alloc(), Ask::Unfinished, &[(SUMS, &["N", "-"], "")])
 }
