@@ -1,0 +1,7 @@
+pub mod ContentsLemmas
+pub mod JoinLemmas
+pub mod ListSteps
+pub mod MadeLemmas
+pub mod NumberedLemmas
+pub mod PlaceLemmas
+pub mod UniqueLemmas

@@ -1,0 +1,11 @@
+use Rattle.std.proofs.Common.{◌≡◌, ◌++◌}
+use Rattle.std.specs.List.{flat_map}
+use Rattle.lalrpop_grammar.specs.declared.repr.NonterminalString.{NonterminalString}
+use Rattle.lalrpop_grammar.specs.declared.repr.grammar.NonterminalData.{NonterminalData}
+use Rattle.table_numbers.specs.Made.{borrowed}
+use Rattle.table_numbers.proofs.states.list_productions.Given as goal
+
+abbrev pub invariant-loop-name : goal.invariant-loop-name
+invariant-loop-name l =
+    let listed = λ (e : NonterminalString × NonterminalData). e.1.productions.items in
+    borrowed l.list.items ++ flat_map listed l._name-iterator ≡ flat_map listed l.grammar.nonterminals.entries
