@@ -1,5 +1,5 @@
 -- The contents of states by number are those of the states of the code.
-use Rattle.std.proofs.Common.{◌≡◌, ⊎_elim, ℕ, ◌<◌, ◌≤◌, Bool, true, false, cond, List, [], ◌∷◌, length, map, slice_get, Option, None, Some, option_map, refl, sym, ◌∙◌, ap, subst, arith}
+use Rattle.std.proofs.Common.{◌≡◌, ⊎_elim, ℕ, Bool, true, false, cond, List, [], ◌∷◌, length, map, slice_get, Option, None, Some, option_map, refl, sym, ◌∙◌, ap, subst, arith}
 use Rattle.std.proofs.Math.Path.{fun_ext}
 use Rattle.std.specs.Borrow.{Bor}
 use Rattle.std.specs.BTreeMap.{BTreeMap, get, is_at}
@@ -7,7 +7,7 @@ use Rattle.std.specs.List.{cons_option, filter_map}
 use Rattle.std.specs.Map.{lookup}
 use Rattle.std.specs.declared.cmp.Ordering.{Ordering}
 use Rattle.std.proofs.lemmas.Option.{slice_get_cases, slice_get-map, slice_get_within}
-use Rattle.lalrpop_base.specs.Words.{Bits, Contents, bits_of, contents_at, contents_of, has-bits_of, has-rising, holds_token, name_cmp, number_of, reduction_of, rising, same_bits}
+use Rattle.lalrpop_base.specs.Words.{Bits, Contents, bits_of, contents_at, has-bits_of, has-rising, holds_token, name_cmp, number_of, reduction_of, rising, same_bits}
 use Rattle.lalrpop_grammar.specs.states.States.{Reduction}
 use Rattle.lalrpop_grammar.specs.contracts.repr.TerminalStringOrd.TheImpl as terminal_ord
 use Rattle.lalrpop_grammar.specs.declared.repr.NonterminalString.{NonterminalString}

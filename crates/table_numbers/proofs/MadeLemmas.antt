@@ -1,12 +1,11 @@
 -- States of the code, while they are made of states by number.
-use Rattle.std.proofs.Common.{◌≡◌, ◌≢◌, ⊎_elim, ℕ, ◌+◌, ◌<◌, ◌==◌, ◌||◌, Bool, true, false, cond, List, [], ◌∷◌, ◌++◌, length, map, take, get_or, slice_get, Option, None, Some, option_map, refl, sym, ◌∙◌, ap, subst, arith}
+use Rattle.std.proofs.Common.{◌≡◌, ⊎_elim, ℕ, ◌+◌, ◌<◌, ◌==◌, ◌||◌, Bool, true, false, cond, List, [], ◌∷◌, ◌++◌, length, map, take, get_or, slice_get, Option, None, Some, option_map, refl, sym, ◌∙◌, ap, subst}
 use Rattle.std.proofs.Math.Bool.{or_comm}
 use Rattle.std.specs.BTreeMap.{BTreeMap, get, is_at}
 use Rattle.std.specs.Cmp.{IsTotalOrder}
 use Rattle.std.specs.List.{list_any}
 use Rattle.std.specs.Prelude.{is_some}
 use mathlib.Core.Bool.{true≢false}
-use Rattle.std.specs.Ordering.{eq_by_cmp}
 use Rattle.std.specs.declared.cmp.Ordering.{Ordering}
 use Rattle.std.proofs.lemmas.Cmp.{eq_by_cmp_equiv}
 use Rattle.std.proofs.lemmas.List.{map-append}
@@ -19,7 +18,7 @@ use Rattle.lalrpop_states.specs.declared.lr1_core.state.State.{State}
 use Rattle.lalrpop_states.specs.declared.lr1_core.state.StateIndex.{StateIndex}
 use Rattle.table_numbers.specs.Contents.{passes, target_at}
 use Rattle.table_numbers.specs.Lists.{named}
-use Rattle.table_numbers.specs.Made.{AddsTarget, HasTargets}
+use Rattle.table_numbers.specs.Made.{AddsTarget}
 use Rattle.table_numbers.specs.declared.tables.NumberedState.{NumberedState}
 use Rattle.table_numbers.proofs.ListSteps.{taken}
 

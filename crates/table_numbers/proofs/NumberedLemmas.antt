@@ -4,7 +4,7 @@ use Rattle.std.specs.Borrow.{Bor}
 use Rattle.std.proofs.lemmas.List.{map-append, take_more}
 use Rattle.std.proofs.lemmas.Option.{slice_get_within}
 use Rattle.lalrpop_base.specs.Words.{Bits}
-use Rattle.lalrpop_collections.proofs.theory.lists.Places.{push_cases, slice_get-append_before, slice_get-push_at}
+use Rattle.lalrpop_collections.proofs.theory.lists.Places.{push_cases, slice_get-append_before}
 use Rattle.lalrpop_grammar.specs.declared.repr.Production.{Production}
 use Rattle.lalrpop_states.specs.declared.lr1_core.state.State.{State}
 use Rattle.table_numbers.specs.Lists.{Lists}

@@ -1,8 +1,8 @@
 -- The places of blocks, while they are listed one after the other.
-use Rattle.std.proofs.Common.{◌≡◌, ℕ, suc, ◌+◌, ◌*◌, ◌<◌, List, [], ◌∷◌, ◌++◌, length, drop, get_or, refl, sym, ◌∙◌, ap, arith, append_assoc, length-append}
+use Rattle.std.proofs.Common.{◌≡◌, ℕ, ◌+◌, ◌*◌, ◌<◌, List, [], ◌∷◌, ◌++◌, length, drop, get_or, refl, sym, ◌∙◌, ap, arith, append_assoc, length-append}
 use Rattle.std.specs.List.{flat_map}
 use Rattle.std.proofs.lemmas.List.{drop_more}
-use Rattle.table_numbers.specs.Layout.{counted_pairs, pair_numbers, places_from, set_block, state_block}
+use Rattle.table_numbers.specs.Layout.{counted_pairs, pair_numbers, places_from, state_block}
 use Rattle.table_numbers.specs.declared.tables.NumberedState.{NumberedState}
 
 -- pairs have two numbers each

@@ -1,7 +1,6 @@
 -- Different tables have different numbers.
 use Rattle.std.proofs.Common.{◌≡◌, ℕ, ◌+◌, List, [], ◌∷◌, ◌++◌, length, refl, sym, ◌∙◌, ap, arith, append_assoc}
 use Rattle.std.specs.List.{flat_map}
-use Rattle.lalrpop_base.specs.Words.{Contents, AreFaithful}
 use Rattle.table_numbers.specs.Layout.{counted_pairs, first_set_place, first_state_place, head_of, numbers_of, pair_numbers, places_from, set_block, state_block}
 use Rattle.table_numbers.specs.declared.tables.NumberedState.{NumberedState}
 use Rattle.table_numbers.specs.declared.tables.NumberedTables.{NumberedTables}

@@ -27,9 +27,10 @@ impl Model for Names {
     ghost Value = { Lists };
 
     ghost view = { λ n. record {
-        terminals = n.terminals;
-        nonterminals = n.nonterminals;
-        productions = n.productions } };
+      terminals = n.terminals;
+      nonterminals = n.nonterminals;
+      productions = n.productions;
+    } };
 }
 
 impl Names {

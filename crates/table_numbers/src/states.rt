@@ -205,9 +205,21 @@ fn make_state<'grammar>(
         items: Items {
             vec: Vec::new(alloc),
         },
-        shifts: make_shifts(alloc, names.terminals.all(), count, place, state.shifts.as_slice())?,
+        shifts: make_shifts(
+            alloc,
+            names.terminals.all(),
+            count,
+            place,
+            state.shifts.as_slice(),
+        )?,
         reductions: make_reductions(alloc, productions, sets, place, state.reductions.as_slice())?,
-        gotos: make_gotos(alloc, names.nonterminals.all(), count, place, state.gotos.as_slice())?,
+        gotos: make_gotos(
+            alloc,
+            names.nonterminals.all(),
+            count,
+            place,
+            state.gotos.as_slice(),
+        )?,
     })
 }
 

@@ -1,6 +1,6 @@
-use Rattle.std.proofs.Common.{◌≡◌, ℕ, sym, ap, subst}
+use Rattle.std.proofs.Common.{ℕ, sym, ap, subst}
 use Rattle.std.proofs.Math.Path.{fun_ext}
-use Rattle.lalrpop_base.specs.Words.{AreFaithful, Contents}
+use Rattle.lalrpop_base.specs.Words.{AreFaithful}
 use Rattle.table_numbers.specs.Numbers.{with_items}
 use Rattle.table_numbers.proofs.laws.faithful_numbers.Goals as goal
 

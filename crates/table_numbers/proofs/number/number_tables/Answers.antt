@@ -1,5 +1,5 @@
 use Rattle.std.proofs.Common.{◌≡◌, ℕ, List, map, slice_get, ◌∙◌, ap}
-use Rattle.lalrpop_base.specs.Words.{Bits, rising}
+use Rattle.lalrpop_base.specs.Words.{rising}
 use Rattle.table_numbers.specs.Contents.{contents_if}
 use Rattle.table_numbers.specs.declared.tables.NumberedState.{NumberedState}
 use Rattle.table_numbers.proofs.ContentsLemmas.{all_numbered}

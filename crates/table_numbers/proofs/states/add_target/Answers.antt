@@ -1,4 +1,3 @@
-use Rattle.std.proofs.Common.{sym, ap}
 use Rattle.lalrpop_collections.proofs.theory.lists.Updates.{exact_order}
 use Rattle.table_numbers.proofs.MadeLemmas.{adds_target, no_value}
 use Rattle.table_numbers.proofs.states.add_target.Goals as goal

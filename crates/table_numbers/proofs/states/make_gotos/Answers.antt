@@ -1,4 +1,4 @@
-use Rattle.std.proofs.Common.{◌≡◌, ℕ, ◌++◌, ◌∷◌, [], List, slice_get, get_or, take, Option, Some, sym, ◌∙◌, ap, subst}
+use Rattle.std.proofs.Common.{◌≡◌, ℕ, List, slice_get, get_or, take, Option, Some, sym, ◌∙◌, ap, subst}
 use Rattle.lalrpop_collections.proofs.theory.lists.Places.{slice_get_at}
 use Rattle.lalrpop_base.specs.Words.{name_cmp}
 use Rattle.lalrpop_grammar.specs.declared.repr.NonterminalString.{NonterminalString}

@@ -1,4 +1,4 @@
-use Rattle.std.proofs.Common.{◌≡◌, ℕ, ◌==◌, List, sym, ◌∙◌, ap}
+use Rattle.std.proofs.Common.{ℕ, ◌==◌, List, sym, ◌∙◌, ap}
 use Rattle.std.proofs.lemmas.List.{take_all}
 use Rattle.std.specs.List.{list_any}
 use Rattle.lalrpop_base.specs.Words.{Bits, has, has-bits_of, has-no_bits, same_bits}

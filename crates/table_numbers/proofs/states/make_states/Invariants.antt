@@ -1,4 +1,4 @@
-use Rattle.std.proofs.Common.{◌≡◌, ℕ, List, length, map, slice_get, Some}
+use Rattle.std.proofs.Common.{◌≡◌, ℕ, length, map, slice_get, Some}
 use Rattle.lalrpop_base.specs.Words.{Bits, bits_of}
 use Rattle.lalrpop_states.specs.declared.lr1_core.state.State.{State}
 use Rattle.table_numbers.specs.Made.{IsMade, borrowed}
