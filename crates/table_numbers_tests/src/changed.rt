@@ -44,11 +44,15 @@ fn changed_numbers_are_refused(rt: HostRuntime) -> Result<(), Fail> {
         (14, 0, Some(NumbersError::Productions)),
         (17, 3, Some(NumbersError::Set(0))),
         (17, 0, None),
+        (18, 0, None),
         (19, 1, Some(NumbersError::State(0))),
         (20, 3, Some(NumbersError::State(0))),
         (20, 1, None),
         (22, 2, Some(NumbersError::State(0))),
+        (26, 1, None),
         (28, 2, Some(NumbersError::State(1))),
+        (30, 1, None),
+        (31, 1, None),
         (34, 1, Some(NumbersError::State(2))),
     ];
     for (place, number, expected) in rows.iter() {
@@ -58,14 +62,26 @@ fn changed_numbers_are_refused(rt: HostRuntime) -> Result<(), Fail> {
     Ok(())
 }
 
-// A count that is one higher or lower leaves another number of numbers to be read.
+// With a count that is one higher, the blocks end at other places. The counts at 26, 30 and 31 are
+// left out. With one more pair, their blocks end at the same places, and so they are other tables.
 #[test]
-fn wrong_counts_are_refused(rt: HostRuntime) -> Result<(), Fail> {
+fn counts_that_are_one_higher_are_refused(rt: HostRuntime) -> Result<(), Fail> {
     let alloc = rt.alloc();
     let grammar = grammar(alloc, TEXT)?;
-    for place in [5, 6, 7, 16, 18, 21, 24, 25, 26, 27, 30, 31, 32] {
+    for place in [5, 6, 7, 16, 18, 21, 24, 25, 27, 32] {
         let higher = with_number(alloc, place, NUMBERS[place].wrapping_add(1))?;
         assert!(rt; refusal(alloc, &grammar, &higher).is_some());
+    }
+    Ok(())
+}
+
+// So with one that is one lower. The count at 18 is left out: without its shift, state 0 has two
+// reductions, and ends at the same place.
+#[test]
+fn counts_that_are_one_lower_are_refused(rt: HostRuntime) -> Result<(), Fail> {
+    let alloc = rt.alloc();
+    let grammar = grammar(alloc, TEXT)?;
+    for place in [5, 6, 7, 16, 21, 24, 25, 26, 27, 30, 31, 32] {
         let lower = with_number(alloc, place, NUMBERS[place].wrapping_sub(1))?;
         assert!(rt; refusal(alloc, &grammar, &lower).is_some());
     }

@@ -16,8 +16,8 @@ pub(crate) const TEXT: &str = "S = A\nA = \"x\"";
 
 /// The numbers of the example, worked out by hand.
 pub(crate) const NUMBERS: [u32; 35] = [
-    1280454996, 1, 0, 1, 2, 2, 1, 3, 16, 18, 25, 30, 0, 1, 1, 1, 1, 1, 1, 0, 2, 1, 0, 1, 0, 0, 0, 1,
-    1, 0, 0, 0, 1, 0, 0,
+    1280454996, 1, 0, 1, 2, 2, 1, 3, 16, 18, 25, 30, 0, 1, 1, 1, 1, 1, 1, 0, 2, 1, 0, 1, 0, 0, 0,
+    1, 1, 0, 0, 0, 1, 0, 0,
 ];
 
 /// The states of a grammar with the start symbol S.
