@@ -4,4 +4,5 @@ pub mod ListSteps
 pub mod MadeLemmas
 pub mod NumberedLemmas
 pub mod PlaceLemmas
+pub mod TableLemmas
 pub mod UniqueLemmas

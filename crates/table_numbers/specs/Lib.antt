@@ -5,4 +5,5 @@ pub mod Lists
 pub mod Made
 pub mod Numbered
 pub mod Numbers
+pub mod ParseTables
 pub mod Words

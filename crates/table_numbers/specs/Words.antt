@@ -6,3 +6,4 @@ pub use Rattle.table_numbers.specs.Lists.{AreAbout, Lists, lists_of, named, nont
 pub use Rattle.table_numbers.specs.Made.{AddsTarget, AreMade, HasTargets, IsMade, borrowed}
 pub use Rattle.table_numbers.specs.Numbered.{AreNumbered, EachIsNumbered, IsNumbered, Keeps, named_target, reduction_at, reduction_parts}
 pub use Rattle.table_numbers.specs.Numbers.{AreFaithfulNumbers, AreNumbersOf, AreTablesOf, with_items}
+pub use Rattle.table_numbers.specs.ParseTables.{IsTableOfNumbers}

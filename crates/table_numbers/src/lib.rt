@@ -6,6 +6,7 @@
 //! - `layout`: the numbers of tables.
 //! - `parse`: the tables of numbers.
 //! - `states`: the states of tables.
+//! - `parse_table`: the parse table of numbers.
 //! - `laws`: theorems on numbers of tables.
 //! - `error`: why there are no numbers, or no tables.
 #![tactic(auto)]
@@ -18,5 +19,6 @@ pub mod number;
 mod numbering;
 pub mod numbers;
 pub mod parse;
+pub mod parse_table;
 pub mod states;
 pub mod tables;

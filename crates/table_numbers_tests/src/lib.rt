@@ -9,3 +9,5 @@ mod changed;
 mod example;
 #[cfg(test)]
 mod growths;
+#[cfg(test)]
+mod table;
