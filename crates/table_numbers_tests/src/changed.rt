@@ -5,7 +5,7 @@ use lalrpop_base::repr::grammar::Grammar;
 use std::alloc::Global;
 use std::test::Fail;
 use table_numbers::error::NumbersError;
-use table_numbers::numbers::read;
+use table_numbers::numbers::{read, write};
 use table_numbers::tables::NumberedTables;
 use test_fixtures::texts::{ONE, grammar};
 
@@ -116,5 +116,29 @@ fn numbers_of_another_grammar_are_refused(rt: HostRuntime) -> Result<(), Fail> {
     let alloc = rt.alloc();
     let one = grammar(alloc, ONE)?;
     assert!(rt; refusal(alloc, &one, &NUMBERS) == Some(NumbersError::Nonterminals(2)));
+    Ok(())
+}
+
+// The numbers of the example, if set 0 has token 0 too. So the states begin one place later. The
+// tokens ascend in the first list, and descend in the second.
+const ASCENDING: [u32; 36] = [
+    1280454996, 1, 0, 1, 2, 2, 1, 3, 16, 19, 26, 31, 0, 1, 1, 1, 2, 0, 1, 1, 0, 2, 1, 0, 1, 0, 0,
+    0, 1, 1, 0, 0, 0, 1, 0, 0,
+];
+
+const DESCENDING: [u32; 36] = [
+    1280454996, 1, 0, 1, 2, 2, 1, 3, 16, 19, 26, 31, 0, 1, 1, 1, 2, 1, 0, 1, 0, 2, 1, 0, 1, 0, 0,
+    0, 1, 1, 0, 0, 0, 1, 0, 0,
+];
+
+#[test]
+fn tokens_are_read_in_any_order(rt: HostRuntime) -> Result<(), Fail> {
+    let alloc = rt.alloc();
+    let grammar = grammar(alloc, TEXT)?;
+    for numbers in [ASCENDING, DESCENDING] {
+        let states = read(alloc, &grammar, &numbers)?;
+        let again = write(alloc, &grammar, &states)?;
+        assert!(rt; again.as_slice() == ASCENDING.as_slice());
+    }
     Ok(())
 }
