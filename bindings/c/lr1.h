@@ -27,7 +27,7 @@ enum lr1_status {
     LR1_OK = 0,
     /* There are conflicts or warnings, or a parse was refused or reached its limit. */
     LR1_REFUSED = 1,
-    /* The text or the words have a fault. */
+    /* The text, the words or the start symbol have a fault. */
     LR1_FAULT = 2,
     /* malloc or realloc returned a null pointer. */
     LR1_NO_MEMORY = 3
@@ -68,6 +68,26 @@ uint32_t lr1_version(void);
  */
 uint8_t lr1_ask(const uint8_t *text, size_t text_length, const uint8_t *words, size_t words_length,
                 bool canonical, uint8_t *out, size_t room, size_t *length);
+
+/*
+ * Writes the LR(1) tables of a grammar as numbers, by which a program parses without this library.
+ * The page docs/FORMATS.md says under "Tables as numbers" what each number means, and how to parse.
+ *
+ * text       the grammar, as for lr1_ask
+ * start      the name of the start symbol, in UTF-8
+ * canonical  true for the canonical tables, and false for lane tables if the grammar has such
+ * out, room  where the numbers go, and how many there is room for
+ * length     gets how many numbers the tables have
+ *
+ * If the tables have at most `room` numbers, all of them are in `out`. If not, the first `room` are,
+ * and a call with room for *length numbers gets all of them. The rest of `out` keeps its numbers.
+ *
+ * Returns LR1_OK for tables. *length is 0 otherwise: LR1_REFUSED for conflicts, LR1_FAULT for a fault
+ * of the text or the start symbol, and LR1_NO_MEMORY. lr1_ask says more of conflicts and faults. The
+ * same is asked of the caller as for lr1_ask.
+ */
+uint8_t lr1_tables(const uint8_t *text, size_t text_length, const uint8_t *start, size_t start_length,
+                   bool canonical, uint32_t *out, size_t room, size_t *length);
 
 #ifdef __cplusplus
 }

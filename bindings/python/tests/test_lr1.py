@@ -138,6 +138,21 @@ class Calls(unittest.TestCase):
         self.assertEqual(tree.terminals(), tokens)
         self.assertEqual(str(tree) + "\n", lr1.ask(text, ["A0", "parse", "9999", *tokens]).text)
 
+    def test_numbers(self):
+        # The numbers of `S = "x"`, by docs/FORMATS.md.
+        numbers = [1280454996, 1, 0, 1, 1, 1, 1, 2, 13, 15, 20, 0, 1, 1, 1, 1, 0, 1, 0, 0, 0, 0, 1, 0, 0]
+        for canonical in (False, True):
+            self.assertEqual(lr1.table_numbers('S = "x"', "S", canonical), (0, numbers))
+        self.assertEqual(lr1.table_numbers(AMBIGUOUS, "S"), (1, []))
+        for text, start in ((b"S = \xff", "S"), ("what", "S"), (SUMS, "T"), (SUMS, "")):
+            self.assertEqual(lr1.table_numbers(text, start), (2, []))
+
+    def test_many_numbers(self):
+        text = "\n".join([*(f'A{it} = "{it}" A{it + 1}' for it in range(9000)), "A9000 ="])
+        status, numbers = lr1.table_numbers(text, "A0")
+        self.assertEqual((status, numbers[5]), (0, 9001))
+        self.assertGreater(len(numbers), 1 << 16)
+
     def test_threads(self):
         tables = Grammar(SUMS).tables("S")
         with concurrent.futures.ThreadPoolExecutor(8) as pool:

@@ -1,10 +1,13 @@
-//! What the programs `lrtab` and `lrshow` print of a grammar, for callers in C.
+//! What the programs `lrtab` and `lrshow` print of a grammar, and its tables as numbers, for callers
+//! in C.
 #![tactic(auto)]
 
 ghost use Rattle.std.specs.Prelude.{◌≡◌};
-ghost use Rattle.lr1_calls.specs.Calls.{IsAnswered};
+ghost use Rattle.lr1_calls.specs.Calls.{IsAnswered, method_for};
+ghost use Rattle.lr1_calls.specs.Tables.{AreGiven};
 
 use lr1_calls::ask::ask;
+use lr1_calls::tables::tables;
 use std::alloc::Global;
 
 /// The version of the interface. It grows if the meaning of a call changes.
@@ -30,4 +33,22 @@ pub extern "C" fn lr1_ask(
     ensures { IsAnswered canonical words.now text.now result out.old out.new length.new }
 {
     ask(alloc, text, words, canonical, out, length)
+}
+
+/// The LR(1) tables of the grammar text `text` for the start symbol `start`, as numbers. As many of
+/// the numbers as fit go to `out`, and how many there are to `length`. The result is the status: 0
+/// for tables, 1 for conflicts, 2 for a fault, and 3 if an allocation fails. Only tables have
+/// numbers.
+#[unsafe(no_mangle)]
+pub extern "C" fn lr1_tables(
+    alloc: Global,
+    text: &[u8],
+    start: &[u8],
+    canonical: bool,
+    out: &mut [u32],
+    length: &mut usize,
+) -> u8
+    ensures { AreGiven (method_for canonical) text.now start.now result out.old out.new length.new }
+{
+    tables(alloc, text, start, canonical, out, length)
 }

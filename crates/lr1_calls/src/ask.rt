@@ -25,8 +25,8 @@ pub fn ask(
     put_answer(&answer, out, length)
 }
 
-// The method that a flag asks for.
-fn method_for(canonical: bool) -> Method
+/// The method that a flag asks for.
+pub(crate) fn method_for(canonical: bool) -> Method
     ensures { result ≡ method_for canonical }
 {
     if canonical {

@@ -1,6 +1,8 @@
-//! What the programs `lrtab` and `lrshow` print of a grammar, from memory to memory.
+//! What the programs `lrtab` and `lrshow` print of a grammar, and its tables as numbers, from memory
+//! to memory.
 #![tactic(auto)]
 
 pub mod ask;
 mod put;
+pub mod tables;
 mod words;

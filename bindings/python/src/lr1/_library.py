@@ -5,11 +5,11 @@ from __future__ import annotations
 import ctypes
 import os
 import pathlib
-from typing import Iterable, NamedTuple, Union
+from typing import Iterable, List, NamedTuple, Tuple, Union
 
 # The version of the library's calls that this package uses.
 _VERSION = 1
-# How many bytes the first call has room for.
+# How many bytes or numbers the first call has room for.
 _ROOM = 1 << 16
 
 OK, REFUSED, FAULT, NO_MEMORY = range(4)
@@ -37,9 +37,10 @@ def _loaded(path: str) -> ctypes.CDLL:
         library.lr1_version.restype = ctypes.c_uint32
         library.lr1_version.argtypes = []
         library.lr1_ask.restype = ctypes.c_uint8
+        library.lr1_tables.restype = ctypes.c_uint8
     except (OSError, AttributeError) as why:
         raise ImportError(f"{path} is not the library lr1: {why}") from why
-    library.lr1_ask.argtypes = [
+    library.lr1_ask.argtypes = library.lr1_tables.argtypes = [
         *(ctypes.c_char_p, ctypes.c_size_t),
         *(ctypes.c_char_p, ctypes.c_size_t),
         ctypes.c_bool,
@@ -81,4 +82,27 @@ def ask(text: Union[str, bytes], words: Iterable[str], canonical: bool = False) 
             raise MemoryError("the library lr1 found no memory")
         if length.value <= room:
             return Answer(status, ctypes.string_at(out, length.value).decode())
+        room = length.value
+
+
+def table_numbers(text: Union[str, bytes], start: str, canonical: bool = False) -> Tuple[int, List[int]]:
+    """The status and the numbers of the tables of a grammar, which docs/FORMATS.md describes.
+
+    There are numbers only if the status is 0. It is 1 for conflicts and 2 for a fault.
+
+    >>> status, numbers = table_numbers('S = "x"', "S")
+    >>> status, numbers[3:8]
+    (0, [1, 1, 1, 1, 2])
+    """
+    given = text.encode() if isinstance(text, str) else bytes(text)
+    name, room, length = start.encode(), _ROOM, ctypes.c_size_t()
+    while True:
+        out = (ctypes.c_uint32 * room)()
+        status = _LIBRARY.lr1_tables(
+            given, len(given), name, len(name), canonical, out, room, ctypes.byref(length)
+        )
+        if status == NO_MEMORY:
+            raise MemoryError("the library lr1 found no memory")
+        if length.value <= room:
+            return status, out[: length.value]
         room = length.value

@@ -9,7 +9,7 @@ pub const LR1_VERSION: u32 = 1;
 pub const LR1_OK: u8 = 0;
 /// There are conflicts or warnings, or a parse was refused or reached its limit.
 pub const LR1_REFUSED: u8 = 1;
-/// The text or the words have a fault.
+/// The text, the words or the start symbol have a fault.
 pub const LR1_FAULT: u8 = 2;
 /// `malloc` or `realloc` returned a null pointer.
 pub const LR1_NO_MEMORY: u8 = 3;
@@ -35,6 +35,27 @@ extern "C" {
         words_length: usize,
         canonical: bool,
         out: *mut u8,
+        room: usize,
+        length: *mut usize,
+    ) -> u8;
+
+    /// Writes the LR(1) tables of a grammar as numbers. `start` is the name of the start symbol. As
+    /// many of the numbers as fit go to `out`, and how many there are to `length`. There are none
+    /// unless the result is [`LR1_OK`].
+    ///
+    /// # Safety
+    ///
+    /// - `text` and `start` can be read for `text_length` and `start_length` bytes.
+    /// - `out` can be read and written for `room` numbers, which are initialized, and `length` for
+    ///   one `usize`. They overlap no other memory of the call.
+    /// - No pointer is null, also for 0 bytes, and `out` and `length` are aligned.
+    pub fn lr1_tables(
+        text: *const u8,
+        text_length: usize,
+        start: *const u8,
+        start_length: usize,
+        canonical: bool,
+        out: *mut u32,
         room: usize,
         length: *mut usize,
     ) -> u8;

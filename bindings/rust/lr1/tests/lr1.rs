@@ -217,6 +217,41 @@ fn questions() -> Result<(), Error> {
     Ok(())
 }
 
+/// The status of a call for tables, and its numbers.
+fn table_numbers(text: &str, start: &str, canonical: bool) -> (u8, Vec<u32>) {
+    let mut out = vec![0; 1000];
+    let mut length = 0;
+    // SAFETY: each pointer is that of a slice or of a reference, with its length. `out` and `length`
+    // are borrowed mutably, so nothing overlaps them.
+    let status = unsafe {
+        lr1_sys::lr1_tables(
+            text.as_ptr(),
+            text.len(),
+            start.as_ptr(),
+            start.len(),
+            canonical,
+            out.as_mut_ptr(),
+            out.len(),
+            &mut length,
+        )
+    };
+    out.truncate(length);
+    (status, out)
+}
+
+#[test]
+fn numbers() {
+    // The numbers of `S = "x"`, by docs/FORMATS.md.
+    let numbers = [
+        1280454996, 1, 0, 1, 1, 1, 1, 2, 13, 15, 20, 0, 1, 1, 1, 1, 0, 1, 0, 0, 0, 0, 1, 0, 0,
+    ];
+    for canonical in [false, true] {
+        assert_eq!(table_numbers("S = \"x\"", "S", canonical), (0, numbers.to_vec()));
+    }
+    assert_eq!(table_numbers(AMBIGUOUS, "S", false), (1, vec![]));
+    assert_eq!(table_numbers(SUMS, "T", false), (2, vec![]));
+}
+
 #[test]
 fn threads() -> Result<(), Error> {
     let tables = Grammar::from_text(SUMS).tables("S")?;
