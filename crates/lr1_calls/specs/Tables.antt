@@ -1,6 +1,6 @@
 -- The numbers of the tables of a grammar text, in the memory of a caller. A text and a start symbol
 -- are lists of bytes.
-use Rattle.std.specs.Prelude.{◌≡◌, ◌⊎◌, ℕ, Bool, List, [], None, position}
+use Rattle.std.specs.Prelude.{◌≡◌, ◌⊎◌, ℕ, List, [], None, position}
 use Rattle.std.specs.BTreeMap.{get}
 use Rattle.std.specs.Str.{IsUtf8}
 use Rattle.grammar_text.specs.Faults.{IsFaultOf}
