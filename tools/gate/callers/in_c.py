@@ -12,6 +12,12 @@ ASAN = ("-fsanitize=address", "-g")
 # How many random questions there are, and how much of one is printed.
 RANDOM, LONGEST = 20_000, 300
 
+# Texts and start symbols, each with the status and the numbers of its tables by docs/FORMATS.md.
+NUMBERS = (
+    ('S = A\nA = "x"', "S", "0 1280454996 1 0 1 2 2 1 3 16 18 25 30 0 1 1 1 1 1 1 0 2 1 0 1 0 0 0 1 1 0 0 0 1 0 0"),
+    ("S =\nS =", "S", "1"), ("what", "S", "2"), ('S = "x"', "T", "2"), ("", "", "2"),
+)
+
 CPP_CALLER = """#include <lr1.h>
 #include <cstdio>
 #include <string>
@@ -123,3 +129,12 @@ def refused(library, room):
         why = str(failed)
     number = re.search(r"(?m)^.*question (\d+): ", why)
     return "refused", [shown(questions[int(number[1])])] * bool(number) + [why]
+
+
+def numbers(library, room):
+    """Tables as numbers, with each smaller room."""
+    flags, variables = sanitizer(room)
+    program = compiled(library, room, "numbers", f"{HERE}/numbers.c", *flags)
+    found = [(*it, ran(program, *it[:2], **variables)) for it in NUMBERS]
+    faults = [f"{text!r} from {start!r} has {said!r}, expected {it!r}" for text, start, it, said in found if said != it]
+    return f"{len(NUMBERS)} texts", faults

@@ -20,6 +20,17 @@ uint32_t lr1_version(void) { return 1; }
 #if FAULT == 12
 uint32_t lr1_other(void) { return 1; }
 #endif
+uint8_t lr1_tables(const uint8_t *text, size_t text_length, const uint8_t *start, size_t start_length,
+                   bool canonical, uint32_t *out, size_t room, size_t *length)
+{
+    (void)text, (void)start, (void)canonical;
+    *length = text_length + start_length;
+    for (size_t at = 0; at < *length && at < room; at++)
+        out[at] = FAULT == 13 ? (uint32_t)room : 7;
+    if (FAULT == 14 && room > *length)
+        out[*length] = 7;
+    return LR1_REFUSED;
+}
 uint8_t lr1_ask(const uint8_t *text, size_t text_length, const uint8_t *words, size_t words_length,
                 bool canonical, uint8_t *out, size_t room, size_t *length)
 {
@@ -124,7 +135,21 @@ class Names(unittest.TestCase):
         for fault, count in ((0, 0), (12, 2)):
             with self.subTest(fault), tempfile.TemporaryDirectory() as room:
                 said, faults = in_c.names(library(room, fault), room)
-                self.assertEqual((said, len(faults)), ("2 calls", count))
+                self.assertEqual((said, len(faults)), ("3 calls", count))
+
+
+class Numbers(unittest.TestCase):
+    def test_numbers(self):
+        with tempfile.TemporaryDirectory() as room:
+            said, faults = in_c.numbers(library(room, 0), room)
+        self.assertEqual((said, len(faults)), ("5 texts", 5))
+        self.assertIn("'T' has '1 7 7 7 7 7 7 7 7', expected '2'", faults[3])
+
+    def test_faults(self):
+        for fault, text in ((13, "other numbers, with room for 1 "), (14, "a number after the answer was written")):
+            with self.subTest(fault), tempfile.TemporaryDirectory() as room:
+                with self.assertRaisesRegex(parts.Failed, text):
+                    in_c.numbers(library(room, fault), room)
 
 
 class Questions(unittest.TestCase):
