@@ -1,8 +1,8 @@
-//! The call of the C library.
+//! The calls of the C library.
 
 use crate::Error;
 
-/// How many bytes the first call has room for.
+/// How many bytes or numbers the first call has room for.
 const ROOM: usize = 1 << 16;
 
 /// How tables are made.
@@ -90,11 +90,64 @@ fn call(text: &[u8], words: &[u8], method: Method, out: &mut [u8], length: &mut 
 
 fn answer(status: u8, out: Vec<u8>) -> Result<Answer, Error> {
     let text = String::from_utf8(out).map_err(|why| Error::Answer(why.to_string()))?;
-    let status = match status {
-        lr1_sys::LR1_OK => Status::Ok,
-        lr1_sys::LR1_REFUSED => Status::Refused,
-        lr1_sys::LR1_FAULT => Status::Fault,
-        _ => return Err(Error::Answer(format!("status {status}: {text}"))),
-    };
-    Ok(Answer { status, text })
+    match status_of(status) {
+        Some(status) => Ok(Answer { status, text }),
+        None => Err(Error::Answer(format!("status {status}: {text}"))),
+    }
+}
+
+fn status_of(status: u8) -> Option<Status> {
+    match status {
+        lr1_sys::LR1_OK => Some(Status::Ok),
+        lr1_sys::LR1_REFUSED => Some(Status::Refused),
+        lr1_sys::LR1_FAULT => Some(Status::Fault),
+        _ => None,
+    }
+}
+
+/// The status and the numbers of the tables of a grammar, which `docs/FORMATS.md` describes. There
+/// are numbers only if the status is `Ok`. It is `Refused` for conflicts.
+///
+/// ```
+/// let (status, numbers) = lr1::table_numbers("S = \"x\"", "S", lr1::Method::Lane)?;
+/// assert_eq!((status, &numbers[3..8]), (lr1::Status::Ok, &[1, 1, 1, 1, 2][..]));
+/// # Ok::<(), lr1::Error>(())
+/// ```
+pub fn table_numbers(
+    text: impl AsRef<[u8]>,
+    start: &str,
+    method: Method,
+) -> Result<(Status, Vec<u32>), Error> {
+    let mut out = Vec::new();
+    let mut length = ROOM;
+    loop {
+        out.try_reserve_exact(length).map_err(|_| Error::OutOfMemory)?;
+        out.resize(length, 0);
+        let status = call_for_tables(text.as_ref(), start.as_bytes(), method, &mut out, &mut length);
+        if status == lr1_sys::LR1_NO_MEMORY {
+            return Err(Error::OutOfMemory);
+        }
+        if length <= out.len() {
+            out.truncate(length);
+            let status = status_of(status).ok_or_else(|| Error::Answer(format!("status {status}")))?;
+            return Ok((status, out));
+        }
+    }
+}
+
+fn call_for_tables(text: &[u8], start: &[u8], method: Method, out: &mut [u32], length: &mut usize) -> u8 {
+    // SAFETY: each pointer is that of a slice or of a reference, with its length. `out` and `length`
+    // are borrowed mutably, so nothing overlaps them.
+    unsafe {
+        lr1_sys::lr1_tables(
+            text.as_ptr(),
+            text.len(),
+            start.as_ptr(),
+            start.len(),
+            method == Method::Canonical,
+            out.as_mut_ptr(),
+            out.len(),
+            length,
+        )
+    }
 }

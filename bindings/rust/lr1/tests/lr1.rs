@@ -1,7 +1,7 @@
 //! Tests of the crate.
 
 use lr1::Symbol::{Literal, Nonterminal};
-use lr1::{ask, version, Action, Error, Grammar, Method, ParseOutcome, Status};
+use lr1::{ask, table_numbers, version, Action, Error, Grammar, Method, ParseOutcome, Status};
 use std::{error, thread};
 
 const SUMS: &str = "S = E\nE = E \"+\" \"n\"\nE = \"n\"\n";
@@ -217,39 +217,29 @@ fn questions() -> Result<(), Error> {
     Ok(())
 }
 
-/// The status of a call for tables, and its numbers.
-fn table_numbers(text: &str, start: &str, canonical: bool) -> (u8, Vec<u32>) {
-    let mut out = vec![0; 1000];
-    let mut length = 0;
-    // SAFETY: each pointer is that of a slice or of a reference, with its length. `out` and `length`
-    // are borrowed mutably, so nothing overlaps them.
-    let status = unsafe {
-        lr1_sys::lr1_tables(
-            text.as_ptr(),
-            text.len(),
-            start.as_ptr(),
-            start.len(),
-            canonical,
-            out.as_mut_ptr(),
-            out.len(),
-            &mut length,
-        )
-    };
-    out.truncate(length);
-    (status, out)
-}
-
 #[test]
-fn numbers() {
+fn numbers() -> Result<(), Error> {
     // The numbers of `S = "x"`, by docs/FORMATS.md.
     let numbers = [
         1280454996, 1, 0, 1, 1, 1, 1, 2, 13, 15, 20, 0, 1, 1, 1, 1, 0, 1, 0, 0, 0, 0, 1, 0, 0,
     ];
-    for canonical in [false, true] {
-        assert_eq!(table_numbers("S = \"x\"", "S", canonical), (0, numbers.to_vec()));
+    for method in [Method::Lane, Method::Canonical] {
+        assert_eq!(
+            table_numbers("S = \"x\"", "S", method)?,
+            (Status::Ok, numbers.to_vec())
+        );
     }
-    assert_eq!(table_numbers(AMBIGUOUS, "S", false), (1, vec![]));
-    assert_eq!(table_numbers(SUMS, "T", false), (2, vec![]));
+    assert_eq!(
+        table_numbers(AMBIGUOUS, "S", Method::Lane)?,
+        (Status::Refused, vec![])
+    );
+    assert_eq!(table_numbers(SUMS, "T", Method::Lane)?, (Status::Fault, vec![]));
+    let mut text: String = (0..9000)
+        .map(|it| format!("A{it} = \"{it}\" A{}\n", it + 1))
+        .collect();
+    text.push_str("A9000 =");
+    assert!(table_numbers(text, "A0", Method::Lane)?.1.len() > 1 << 16);
+    Ok(())
 }
 
 #[test]
