@@ -10,8 +10,8 @@ const EXAMPLE: &str = "S = A\nA = \"x\"";
 
 // The numbers of the example, which were worked out by hand.
 const NUMBERS: [u32; 35] = [
-    1280454996, 1, 0, 1, 2, 2, 1, 3, 16, 18, 25, 30, 0, 1, 1, 1, 1, 1, 1, 0, 2, 1, 0, 1, 0, 0, 0, 1,
-    1, 0, 0, 0, 1, 0, 0,
+    1280454996, 1, 0, 1, 2, 2, 1, 3, 16, 18, 25, 30, 0, 1, 1, 1, 1, 1, 1, 0, 2, 1, 0, 1, 0, 0, 0,
+    1, 1, 0, 0, 0, 1, 0, 0,
 ];
 
 // A grammar with a marked nonterminal. After inlining, S has the production `S = "x"`.
