@@ -19,7 +19,7 @@ pub struct NumberedState {
 /// Tables by number. Terminals, nonterminals and productions have the numbers of their places in
 /// the lists of a grammar. The token with number `terminals` is the end of the input. A production
 /// has the number of its nonterminal and the length of its right side. A token set has the numbers
-/// of its tokens, ascending.
+/// of its tokens. They ascend in tables that `of_states` makes.
 #[derive(Drop)]
 pub struct NumberedTables {
     pub terminals: u32,
