@@ -1,10 +1,11 @@
 /*
  * refuse QUESTIONS
  *
- * Asks each question over and over, while one allocation is refused, or while all from one on are.
- * It is linked so that the library calls the functions below in the place of malloc, realloc and
- * free. Each such call must free all that it took, and return LR1_NO_MEMORY. If only one allocation is
- * refused, it may also return the right answer, since a list that finds no room to spare grows by less.
+ * Asks each question over and over, while one allocation is refused, or while all from one on are. A
+ * question with a single word asks for the tables with that start symbol, as numbers. This program is
+ * linked so that the library calls the functions below in the place of malloc, realloc and free. Each
+ * such call must free all that it took, and return LR1_NO_MEMORY. If only one allocation is refused, it
+ * may also return the right answer, since a list that finds no room to spare grows by less.
  */
 #include "questions.h"
 
@@ -51,13 +52,37 @@ void __wrap_free(void *block)
     __real_free(block);
 }
 
-/* An answer. */
+/* An answer: a text, or numbers. */
 struct answer {
     uint8_t status, bytes[ROOM];
+    uint32_t numbers[ROOM];
     size_t length;
 };
 
 static struct answer right, other;
+
+static bool is_for_tables(const struct question *it)
+{
+    return memchr(it->words.bytes, 0, it->words.length) == NULL;
+}
+
+static uint8_t called(struct answer *to, const struct question *it)
+{
+    if (is_for_tables(it))
+        return lr1_tables(it->text.bytes, it->text.length, it->words.bytes, it->words.length, it->canonical,
+                          to->numbers, ROOM, &to->length);
+    return lr1_ask(it->text.bytes, it->text.length, it->words.bytes, it->words.length, it->canonical,
+                   to->bytes, ROOM, &to->length);
+}
+
+static bool are_equal(const struct answer *a, const struct answer *b, const struct question *it)
+{
+    if (a->status != b->status || a->length != b->length)
+        return false;
+    if (is_for_tables(it))
+        return memcmp(a->numbers, b->numbers, a->length * sizeof *a->numbers) == 0;
+    return memcmp(a->bytes, b->bytes, a->length) == 0;
+}
 
 /* Asks while an allocation is refused, or none if the number is large. */
 static void ask(struct answer *to, const struct question *it, size_t number, long refused, bool all_after)
@@ -65,8 +90,7 @@ static void ask(struct answer *to, const struct question *it, size_t number, lon
     memory.blocks = memory.made = 0;
     memory.refused = refused;
     memory.all_after = all_after;
-    to->status = lr1_ask(it->text.bytes, it->text.length, it->words.bytes, it->words.length, it->canonical,
-                         to->bytes, ROOM, &to->length);
+    to->status = called(to, it);
     if (memory.blocks != 0)
         fault(number, "a block was not freed");
     if (to->length > ROOM)
@@ -87,8 +111,7 @@ static void refuse_each(const struct question *it, size_t number, bool all_after
         fault(number, "an allocation failure, and none was refused");
     for (long refused = 0; refused < count; refused++) {
         ask(&other, it, number, refused, all_after);
-        bool is_right = other.status == right.status && other.length == right.length &&
-                        memcmp(other.bytes, right.bytes, right.length) == 0;
+        bool is_right = are_equal(&other, &right, it);
         if (other.status == LR1_NO_MEMORY)
             counts.reported++;
         else if (all_after || !is_right) {

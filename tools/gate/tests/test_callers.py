@@ -23,7 +23,11 @@ uint32_t lr1_other(void) { return 1; }
 uint8_t lr1_tables(const uint8_t *text, size_t text_length, const uint8_t *start, size_t start_length,
                    bool canonical, uint32_t *out, size_t room, size_t *length)
 {
+    void *block = malloc(10);
     (void)text, (void)start, (void)canonical;
+    if (block == NULL && FAULT != 15)
+        return LR1_NO_MEMORY;
+    free(block);
     *length = text_length + start_length;
     for (size_t at = 0; at < *length && at < room; at++)
         out[at] = FAULT == 13 ? (uint32_t)room : 7;
@@ -118,7 +122,7 @@ class Refused(unittest.TestCase):
 
     def test_right_library(self):
         said, faults = self.refused(0)
-        self.assertRegex(said, r"^78 questions, (\d+) refused allocations, \1 of them reported$")
+        self.assertRegex(said, r"^84 questions, (\d+) refused allocations, \1 of them reported$")
         self.assertEqual(faults, [])
 
     def test_faults(self):
@@ -128,6 +132,11 @@ class Refused(unittest.TestCase):
                 _, faults = self.refused(fault)
                 self.assertIn("words b'S\\x00", faults[0])
                 self.assertIn(text, faults[1])
+
+    def test_fault_of_tables(self):
+        _, faults = self.refused(15)
+        self.assertIn("words b'S',", faults[0])
+        self.assertIn("all after it; question 26: it was not reported", faults[1])
 
 
 class Names(unittest.TestCase):
