@@ -1,5 +1,5 @@
 // What calls of the base libraries leave after an allocation failure.
-mod additions;
-mod copies;
+pub(crate) mod additions;
+pub(crate) mod copies;
 mod fixtures;
-mod sets;
+pub(crate) mod sets;

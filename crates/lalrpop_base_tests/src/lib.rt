@@ -5,6 +5,8 @@
 #[cfg(test)]
 mod allocation_failures;
 #[cfg(test)]
+mod asked;
+#[cfg(test)]
 mod collections;
 #[cfg(test)]
 mod tokens;

@@ -1,11 +1,16 @@
 // Texts, lists, items and states: their printed texts, equality and order.
+use crate::asked::{Ask, Case, Value, expect};
 use grammar_text::symbols::name_of;
 use lalrpop_base::exact::{contains, equal, place_of};
 use lalrpop_base::lookahead::Lookahead;
 use lalrpop_base::lookahead::nil::Nil;
 use lalrpop_base::lr1_core::item::Item;
 use lalrpop_base::lr1_core::state::StateIndex;
-use lalrpop_base::repr::{Span, Symbol, TerminalString, augment, clone_symbols};
+use lalrpop_base::memory::OutOfMemory;
+use lalrpop_base::repr::grammar::Grammar;
+use lalrpop_base::repr::{
+    NonterminalString, Production, Span, Symbol, TerminalString, augment, clone_symbols,
+};
 use lalrpop_base::sequence::Sequence;
 use lalrpop_base::text::Text;
 use std::alloc::Global;
@@ -13,81 +18,118 @@ use std::fmt;
 use std::test::Fail;
 use test_fixtures::texts::{first_production, grammar, literal};
 
-// A literal is printed between quotes, so its length includes them. A nonterminal ignores the width
-// of a format.
-#[test]
-fn lengths_of_what_is_printed(rt: HostRuntime) -> Result<(), Fail> {
-    let alloc = rt.alloc();
-    let terminal = literal(alloc, "->")?;
-    assert_eq!(rt; terminal.display_len(), 4);
-    assert_eq!(rt;
-        format!(in alloc; "{terminal} {terminal:?}")?.as_str(),
-        "\"->\" \"->\""
-    );
-    let bare = TerminalString::Bare(Text::new(alloc, "ID")?);
-    assert_eq!(rt; bare.display_len(), 2);
-    assert_eq!(rt; TerminalString::Error.display_len(), 5);
-    let symbol = Symbol::Terminal(bare);
-    assert_eq!(rt; symbol.display_len(), 2);
-    assert_eq!(rt; format!(in alloc; "{symbol} {symbol:?}")?.as_str(), "ID ID");
-    let expr = name_of(alloc, "Expr")?;
-    assert_eq!(rt; expr.display_len(), 4);
-    assert_eq!(rt;
-        format!(in alloc; "{expr:8}|{expr:?}")?.as_str(),
-        "Expr|Expr"
-    );
-    let five = StateIndex(5);
-    assert_eq!(rt; format!(in alloc; "{five:?} {five}")?.as_str(), "S5 5");
-    Ok(())
+// The length of a terminal that is printed, and what is printed.
+fn terminal_text(alloc: Global, terminal: &TerminalString) -> Result<String, Fail> {
+    let length = terminal.display_len();
+    Ok(format!(in alloc; "{length} {terminal} {terminal:?}")?)
 }
 
-#[test]
-fn texts_and_lists_are_compared(rt: HostRuntime) -> Result<(), Fail> {
-    let alloc = rt.alloc();
+// The same of a symbol.
+fn symbol_text(alloc: Global, symbol: &Symbol) -> Result<String, Fail> {
+    let length = symbol.display_len();
+    Ok(format!(in alloc; "{length} {symbol} {symbol:?}")?)
+}
+
+// The same of a nonterminal, in a format with a width.
+fn name_text(alloc: Global, name: &NonterminalString) -> Result<String, Fail> {
+    let length = name.display_len();
+    Ok(format!(in alloc; "{length} {name:8}|{name:?}")?)
+}
+
+// Whether a text is the expected one.
+fn is_text(text: String, expected: &str) -> bool {
+    text.as_str() == expected
+}
+
+/// Whether a literal is printed between quotes, so its length includes them, and a bare terminal and
+/// that of errors have the length of their texts.
+pub(crate) fn lengths(alloc: Global) -> Result<bool, Fail> {
+    let terminal = literal(alloc, "->")?;
+    if !is_text(terminal_text(alloc, &terminal)?, "4 \"->\" \"->\"") {
+        return Ok(false);
+    }
+    let bare = TerminalString::Bare(Text::new(alloc, "ID")?);
+    Ok(bare.display_len() == 2 && TerminalString::Error.display_len() == 5)
+}
+
+/// Whether a symbol has the length of its text, and a nonterminal ignores the width of a format.
+pub(crate) fn other_lengths(alloc: Global) -> Result<bool, Fail> {
+    let symbol = Symbol::Terminal(TerminalString::Bare(Text::new(alloc, "ID")?));
+    if !is_text(symbol_text(alloc, &symbol)?, "2 ID ID") {
+        return Ok(false);
+    }
+    let name = name_of(alloc, "Expr")?;
+    Ok(is_text(name_text(alloc, &name)?, "4 Expr|Expr"))
+}
+
+/// Whether the number of a state is printed.
+pub(crate) fn indices(alloc: Global) -> Result<bool, Fail> {
+    let five = StateIndex(5);
+    Ok(is_text(format!(in alloc; "{five:?} {five}")?, "S5 5"))
+}
+
+/// Whether a text is equal to its copy, and is before a later one.
+pub(crate) fn texts(alloc: Global) -> Result<bool, Fail> {
     let text = Text::new(alloc, "Expr")?;
     let copy = text.clone(text.allocator())?;
-    assert!(rt; copy == text && copy.as_str() == "Expr");
-    assert!(rt; text < Text::new(alloc, "Term")?);
+    let later = Text::new(alloc, "Term")?;
+    Ok(copy == text && copy.as_str() == "Expr" && text < later)
+}
+
+/// Whether a list is equal to one with the same values, and comes after the empty list.
+pub(crate) fn lists(alloc: Global) -> Result<bool, Fail> {
     let list = Sequence::from_vec(vec![in alloc; 3u32, 1]?);
     let mut same = Sequence::new(alloc);
     same.push(3u32)?;
     same.push(1)?;
-    assert!(rt; list == same && list.len() == 2);
-    assert!(rt; list > Sequence::new(alloc));
-    Ok(())
+    Ok(list == same && list.len() == 2 && list > Sequence::new(alloc))
 }
 
-// Productions with the same symbols differ by their actions.
-#[test]
-fn productions_are_compared(rt: HostRuntime) -> Result<(), Fail> {
-    let alloc = rt.alloc();
-    let grammar = grammar(alloc, "S = \"x\"\nS = \"x\"")?;
-    let first = first_production(alloc, &grammar, "S")?;
-    let Some(second) = grammar.productions_for(&name_of(alloc, "S")?).last() else {
-        panic!(rt; "no production");
+/// Whether two productions with the same symbols differ by their actions.
+pub(crate) fn are_compared(alloc: Global, grammar: &Grammar) -> Result<bool, Fail> {
+    let first = first_production(alloc, grammar, "S")?;
+    let Some(second) = grammar.productions_for(&first.nonterminal).last() else {
+        return Ok(false);
     };
-    assert!(rt; first < second && !equal(first, second));
     let listed = vec![in alloc; first.clone(alloc)?, first.clone(alloc)?]?;
-    assert_eq!(rt; place_of(&listed, first), Some(0));
-    assert_eq!(rt; place_of(&listed, second), None);
-    assert!(rt; contains(&listed, first) && !contains(&listed, second));
-    let symbols = clone_symbols(alloc, second.symbols.as_slice())?;
-    assert!(rt; equal(&symbols, &first.symbols));
-    Ok(())
+    Ok(lists_first(&listed, first, second) && have_same_symbols(alloc, first, second)?)
 }
 
-#[test]
-fn a_new_start_symbol_has_the_place_of_the_old(rt: HostRuntime) -> Result<(), Fail> {
-    let alloc = rt.alloc();
+// Whether a copy of the symbols of a production is equal to those of another one.
+fn have_same_symbols(
+    alloc: Global,
+    first: &Production,
+    second: &Production,
+) -> Result<bool, OutOfMemory> {
+    let symbols = clone_symbols(alloc, second.symbols.as_slice())?;
+    Ok(equal(&symbols, &first.symbols))
+}
+
+// Whether a list begins with the first of two productions, and does not have the second.
+fn lists_first(listed: &[Production], first: &Production, second: &Production) -> bool {
+    first < second
+        && !equal(first, second)
+        && place_of(listed, first) == Some(0)
+        && place_of(listed, second).is_none()
+        && contains(listed, first)
+        && !contains(listed, second)
+}
+
+// The span of the first production of a nonterminal.
+fn first_span(grammar: &Grammar, name: &NonterminalString) -> Option<Span> {
+    match grammar.productions_for(name).first() {
+        Some(production) => Some(production.span),
+        None => None,
+    }
+}
+
+/// Whether a new start symbol has the place of the old one.
+pub(crate) fn new_start(alloc: Global) -> Result<bool, Fail> {
     let grammar = grammar(alloc, "A = \"x\"\nS = A")?;
     let Ok((new, name)) = augment(alloc, grammar, name_of(alloc, "S")?) else {
-        panic!(rt; "refused");
+        return Ok(false);
     };
-    let Some(production) = new.productions_for(&name).first() else {
-        panic!(rt; "no production");
-    };
-    assert_eq!(rt; production.span, Span(8, 13));
-    Ok(())
+    Ok(first_span(&new, &name) == Some(Span(8, 13)))
 }
 
 // Prints the lookahead in the form that it has after an item.
@@ -102,20 +144,45 @@ impl<'l, L: Lookahead> fmt::Display for Suffix<'l, L> {
     }
 }
 
-#[test]
-fn items_print(rt: HostRuntime) -> Result<(), Fail> {
-    let alloc = rt.alloc();
+/// Whether nothing is printed of no lookahead.
+pub(crate) fn no_suffix(alloc: Global) -> Result<bool, Fail> {
     let suffix = Suffix { lookahead: &Nil };
-    assert_eq!(rt; format!(in alloc; "{suffix}")?.as_str(), "");
-    let grammar = grammar(alloc, "T = \"(\" E")?;
-    let production = first_production(alloc, &grammar, "T")?;
-    assert_eq!(rt; production.symbols.len(), 2);
+    Ok(is_text(format!(in alloc; "{suffix}")?, ""))
+}
+
+// What is printed of an item for debugging.
+fn item_text(alloc: Global, item: &Item<'_, Nil>) -> Result<String, Fail> {
+    Ok(format!(in alloc; "{item:?}")?)
+}
+
+/// Whether the item of T with the dot at place 1 is printed, and is before one symbol and after
+/// `"("`.
+pub(crate) fn is_item(alloc: Global, grammar: &Grammar) -> Result<bool, Fail> {
+    let production = first_production(alloc, grammar, "T")?;
+    if production.symbols.len() != 2 {
+        return Ok(false);
+    }
     let item = Item::lr0(production, 1);
-    assert!(rt; *item.shifted_symbol() == Symbol::Terminal(literal(alloc, "(")?));
-    assert_eq!(rt; item.rest().len(), 1);
-    assert_eq!(rt;
-        format!(in alloc; "{item:?}")?.as_str(),
-        "T = \"(\" (*) E Nil"
-    );
-    Ok(())
+    let symbol = Symbol::Terminal(literal(alloc, "(")?);
+    if *item.shifted_symbol() != symbol || item.rest().len() != 1 {
+        return Ok(false);
+    }
+    Ok(is_text(item_text(alloc, &item)?, "T = \"(\" (*) E Nil"))
+}
+
+const VALUES: [Case; 9] = [
+    (Ask::Value(Value::Lengths), ""),
+    (Ask::Value(Value::Symbols), ""),
+    (Ask::Value(Value::Indices), ""),
+    (Ask::Value(Value::Texts), ""),
+    (Ask::Value(Value::Lists), ""),
+    (Ask::Compared, "S = \"x\"\nS = \"x\""),
+    (Ask::Value(Value::NewStart), ""),
+    (Ask::Value(Value::Suffix), ""),
+    (Ask::Item, "T = \"(\" E"),
+];
+
+#[test]
+fn values(rt: HostRuntime) -> Result<(), Fail> {
+    expect(rt.alloc(), &VALUES)
 }

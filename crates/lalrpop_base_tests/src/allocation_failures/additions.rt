@@ -1,4 +1,5 @@
 // Additions to lists, sets and maps that are not empty: a refused allocation leaves their contents.
+use crate::asked::{Ask, Case, Refused, expect};
 use lalrpop_base::collections::Collection;
 use lalrpop_base::collections::multimap::Multimap;
 use lalrpop_base::kernel_set::KernelSet;
@@ -9,13 +10,14 @@ use lalrpop_base::lr1_core::item::Item;
 use lalrpop_base::lr1_core::state::StateIndex;
 use lalrpop_base::memory::OutOfMemory;
 use lalrpop_base::repr::Production;
+use lalrpop_base::repr::grammar::Grammar;
 use lalrpop_base::repr::terminals::TerminalSet;
 use lalrpop_base::sequence::Sequence;
 use refused_growth::attempts::Attempt;
 use std::alloc::Global;
 use std::test::Fail;
 use test_fixtures::growths::each_growth_refused;
-use test_fixtures::texts::{ONE, first_production, grammar, many_terminals, only};
+use test_fixtures::texts::{ONE, first_production, many_terminals, only};
 
 // A full list, as a vector or as a sequence, into which a number is pushed.
 #[derive(Drop)]
@@ -55,19 +57,25 @@ impl Attempt for FullList {
     }
 }
 
-// Six numbers fill the block of the list, so a seventh needs an allocation.
-#[test]
-fn a_full_list(rt: HostRuntime) -> Result<(), Fail> {
-    let alloc = rt.alloc();
-    let mut vector = FullList::Vector(Vec::from_slice(alloc, &[0, 1, 2, 3, 4, 5])?);
-    each_growth_refused(alloc, &mut vector)?;
-    let list = Vec::from_slice(alloc, &[0, 1, 2, 3, 4, 5])?;
-    let mut sequence = FullList::Sequence(Sequence::from_vec(list));
-    each_growth_refused(alloc, &mut sequence)
+// Six numbers. They fill the block of the list, so a seventh needs an allocation.
+fn six(alloc: Global) -> Result<Vec<u32>, Fail> {
+    Ok(Vec::from_slice(alloc, &[0, 1, 2, 3, 4, 5])?)
+}
+
+/// Pushes into a full vector while allocations are refused.
+pub(crate) fn full_list(alloc: Global) -> Result<(), Fail> {
+    let mut list = FullList::Vector(six(alloc)?);
+    each_growth_refused(alloc, &mut list)
+}
+
+/// Pushes into a full sequence while allocations are refused.
+pub(crate) fn full_sequence(alloc: Global) -> Result<(), Fail> {
+    let mut list = FullList::Sequence(Sequence::from_vec(six(alloc)?));
+    each_growth_refused(alloc, &mut list)
 }
 
 // How `Eof` is added to a set.
-#[derive(Clone, Copy, PartialEq, Eq)]
+#[derive(Clone, Copy)]
 enum How {
     Pushed,
     Joined,
@@ -116,27 +124,46 @@ impl Attempt for SecondWord<'_> {
     }
 }
 
+// Twenty sets of `Eof`.
+fn ends(alloc: Global, terminals: &TerminalSet) -> Result<Vec<TokenSet>, OutOfMemory> {
+    let mut all = Vec::new(alloc);
+    for _ in 0..20 {
+        all.push(TokenSet::eof(alloc, terminals)?)?;
+    }
+    Ok(all)
+}
+
 // A copy of a set has no more room than it needs, so the second word needs an allocation.
-#[test]
-fn a_second_word(rt: HostRuntime) -> Result<(), Fail> {
-    let alloc = rt.alloc();
+fn second_word<'t>(
+    alloc: Global,
+    terminals: &'t TerminalSet,
+    how: How,
+) -> Result<SecondWord<'t>, OutOfMemory> {
+    let old = only(alloc, "5", terminals)?;
+    Ok(SecondWord {
+        set: old.clone(alloc)?,
+        old,
+        end: TokenSet::eof(alloc, terminals)?,
+        pushed: ends(alloc, terminals)?,
+        terminals,
+        how,
+    })
+}
+
+// Adds `Eof` in one way. The old set has one token.
+fn each_second_word(alloc: Global, terminals: &TerminalSet, how: How) -> Result<(), Fail> {
+    let mut second = second_word(alloc, terminals, how)?;
+    if second.old.len() != 1 {
+        return Err(Fail::from("not one token"));
+    }
+    each_growth_refused(alloc, &mut second)
+}
+
+/// Adds `Eof` in each way while allocations are refused.
+pub(crate) fn second_words(alloc: Global) -> Result<(), Fail> {
     let terminals = many_terminals(alloc)?;
     for how in [How::Pushed, How::Joined, How::Inserted, How::InsertedAsEnd] {
-        let old = only(alloc, "5", &terminals)?;
-        assert_eq!(rt; old.len(), 1);
-        let mut pushed = Vec::new(alloc);
-        for _ in 0..20 {
-            pushed.push(TokenSet::eof(alloc, &terminals)?)?;
-        }
-        let mut second = SecondWord {
-            set: old.clone(alloc)?,
-            old,
-            end: TokenSet::eof(alloc, &terminals)?,
-            pushed,
-            terminals: &terminals,
-            how,
-        };
-        each_growth_refused(alloc, &mut second)?;
+        each_second_word(alloc, &terminals, how)?;
     }
     Ok(())
 }
@@ -178,20 +205,18 @@ impl Attempt for OldKey {
 }
 
 // A list that grew by single values has room for four, so a fifth value needs an allocation.
-#[test]
-fn an_old_key(rt: HostRuntime) -> Result<(), Fail> {
-    let alloc = rt.alloc();
-    for is_pair in [false, true] {
-        let mut map = Multimap::new(alloc);
-        map.push(1, 8)?;
-        map.push(3, 9)?;
-        map.push(2, 0)?;
-        map.push(2, 1)?;
-        map.push(2, 2)?;
-        map.push(2, 3)?;
-        each_growth_refused(alloc, &mut OldKey { map, is_pair })?;
+fn map_of_four(alloc: Global) -> Result<Multimap<u32, Vec<u64>>, OutOfMemory> {
+    let mut map = Multimap::new(alloc);
+    for (key, value) in [(1, 8), (3, 9), (2, 0), (2, 1), (2, 2), (2, 3)] {
+        map.push(key, value)?;
     }
-    Ok(())
+    Ok(map)
+}
+
+/// Pushes under an old key while allocations are refused.
+pub(crate) fn old_key(alloc: Global, is_pair: bool) -> Result<(), Fail> {
+    let map = map_of_four(alloc)?;
+    each_growth_refused(alloc, &mut OldKey { map, is_pair })
 }
 
 // A kernel that has the same item `count` times.
@@ -251,24 +276,35 @@ fn handed_out(set: &mut KernelSet<Sequence<Item<'_, Nil>>>) -> usize {
     99
 }
 
-// After all turns the set has each kernel once. With four kernels its queue is full, and with
-// fifteen its map is full.
+/// Adds a kernel to a set of so many, while allocations are refused. After all turns the set has each
+/// kernel once.
+pub(crate) fn next_kernel(alloc: Global, grammar: &Grammar, count: usize) -> Result<bool, Fail> {
+    let production = first_production(alloc, grammar, "S")?;
+    let mut set = KernelSet::new(alloc);
+    add_kernels(alloc, &mut set, production, count)?;
+    let mut next = NextKernel {
+        set,
+        production,
+        count,
+    };
+    each_growth_refused(alloc, &mut next)?;
+    let is_each = handed_out(&mut next.set) == count.saturating_add(1);
+    Ok(is_each && next.set.next().is_none())
+}
+
+// With four kernels the queue of a set is full, and with fifteen its map is full.
+const ADDITIONS: [Case; 8] = [
+    (Ask::Refused(Refused::FullList), ""),
+    (Ask::Refused(Refused::FullSequence), ""),
+    (Ask::Refused(Refused::SecondWords), ""),
+    (Ask::Refused(Refused::OldKey(false)), ""),
+    (Ask::Refused(Refused::OldKey(true)), ""),
+    (Ask::NextKernel(1), ONE),
+    (Ask::NextKernel(4), ONE),
+    (Ask::NextKernel(15), ONE),
+];
+
 #[test]
-fn a_next_kernel(rt: HostRuntime) -> Result<(), Fail> {
-    let alloc = rt.alloc();
-    let grammar = grammar(alloc, ONE)?;
-    let production = first_production(alloc, &grammar, "S")?;
-    for count in [1, 4, 15] {
-        let mut set = KernelSet::new(alloc);
-        add_kernels(alloc, &mut set, production, count)?;
-        let mut next = NextKernel {
-            set,
-            production,
-            count,
-        };
-        each_growth_refused(alloc, &mut next)?;
-        assert_eq!(rt; handed_out(&mut next.set), count + 1);
-        assert!(rt; next.set.next().is_none());
-    }
-    Ok(())
+fn additions(rt: HostRuntime) -> Result<(), Fail> {
+    expect(rt.alloc(), &ADDITIONS)
 }

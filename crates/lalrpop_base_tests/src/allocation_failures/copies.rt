@@ -1,6 +1,7 @@
 // Copies of values, while allocations are refused.
 ghost use Rattle.lalrpop_base.specs.Words.{IsWellFormed};
 
+use crate::asked::{Ask, Case, expect};
 use grammar_text::symbols::name_of;
 use lalrpop_base::first::FirstSets;
 use lalrpop_base::lookahead::token::Token;
@@ -16,7 +17,7 @@ use refused_growth::attempts::Attempt;
 use std::alloc::Global;
 use std::test::Fail;
 use test_fixtures::growths::{each_growth_refused, no_growth_needed};
-use test_fixtures::texts::{EMPTY_FIRST, ONE, first_production, grammar, literal, only};
+use test_fixtures::texts::{EMPTY_FIRST, ONE, first_production, literal, only};
 
 // A value that is copied.
 #[derive(Drop)]
@@ -141,26 +142,18 @@ fn value_of<'g>(alloc: Global, grammar: &'g Grammar, number: usize) -> Result<Co
     }
 }
 
-#[test]
-fn copies(rt: HostRuntime) -> Result<(), Fail> {
-    let alloc = rt.alloc();
-    let grammar = grammar(alloc, EMPTY_FIRST)?;
-    for number in 2..6 {
-        let mut value = value_of(alloc, &grammar, number)?;
+/// Copies the value of the kind with a number while allocations are refused. A copy of a kind below
+/// 2 needs none.
+pub(crate) fn copy_of_kind(alloc: Global, grammar: &Grammar, kind: usize) -> Result<bool, Fail>
+    requires { IsWellFormed grammar.now }
+{
+    let mut value = value_of(alloc, grammar, kind)?;
+    if kind < 2 {
+        no_growth_needed(alloc, &mut value)?;
+    } else {
         each_growth_refused(alloc, &mut value)?;
     }
-    Ok(())
-}
-
-#[test]
-fn copies_of_texts(rt: HostRuntime) -> Result<(), Fail> {
-    let alloc = rt.alloc();
-    let grammar = grammar(alloc, EMPTY_FIRST)?;
-    for number in 0..2 {
-        let mut value = value_of(alloc, &grammar, number)?;
-        no_growth_needed(alloc, &mut value)?;
-    }
-    Ok(())
+    Ok(true)
 }
 
 // A grammar with a marked nonterminal, or the entry of that nonterminal.
@@ -224,15 +217,14 @@ impl Attempt for Marked<'_> {
     }
 }
 
-#[test]
-fn copies_with_a_mark(rt: HostRuntime) -> Result<(), Fail> {
-    let alloc = rt.alloc();
-    let grammar = grammar(alloc, "inline A\nS = A \"x\"\nA = \"y\"\nA =")?;
-    let Some(entry) = first_marked(&grammar) else {
-        panic!(rt; "no mark");
+/// Copies a grammar with a marked nonterminal, and the entry of that nonterminal.
+pub(crate) fn marked_copies(alloc: Global, grammar: &Grammar) -> Result<bool, Fail> {
+    let Some(entry) = first_marked(grammar) else {
+        return Ok(false);
     };
     each_growth_refused(alloc, &mut Marked::Entry(entry))?;
-    each_growth_refused(alloc, &mut Marked::Grammar(&grammar))
+    each_growth_refused(alloc, &mut Marked::Grammar(grammar))?;
+    Ok(true)
 }
 
 // An item with a lookahead, whose dot is moved over "x".
@@ -255,15 +247,30 @@ impl Attempt for Shifted<'_> {
     }
 }
 
-#[test]
-fn a_shifted_item(rt: HostRuntime) -> Result<(), Fail> {
-    let alloc = rt.alloc();
-    let grammar = grammar(alloc, ONE)?;
+/// Moves the dot of an item over "x", while allocations are refused.
+pub(crate) fn shifted_item(alloc: Global, grammar: &Grammar) -> Result<bool, Fail> {
     let end = TokenSet::eof(alloc, &grammar.terminals)?;
-    let production = first_production(alloc, &grammar, "S")?;
+    let production = first_production(alloc, grammar, "S")?;
     let mut shifted = Shifted {
         item: Item::lr0(production, 0).with_lookahead(end),
         symbol: Symbol::Terminal(literal(alloc, "x")?),
     };
-    each_growth_refused(alloc, &mut shifted)
+    each_growth_refused(alloc, &mut shifted)?;
+    Ok(true)
+}
+
+const COPIES: [Case; 8] = [
+    (Ask::Copied(0), EMPTY_FIRST),
+    (Ask::Copied(1), EMPTY_FIRST),
+    (Ask::Copied(2), EMPTY_FIRST),
+    (Ask::Copied(3), EMPTY_FIRST),
+    (Ask::Copied(4), EMPTY_FIRST),
+    (Ask::Copied(5), EMPTY_FIRST),
+    (Ask::Marked, "inline A\nS = A \"x\"\nA = \"y\"\nA ="),
+    (Ask::Shifted, ONE),
+];
+
+#[test]
+fn copies(rt: HostRuntime) -> Result<(), Fail> {
+    expect(rt.alloc(), &COPIES)
 }

@@ -1,4 +1,5 @@
 // Maps of collections, sets of tokens, and sets of kernels, while allocations are refused.
+use crate::asked::{Ask, Case, Refused, expect};
 use grammar_text::symbols::literals;
 use lalrpop_base::collections::multimap::Multimap;
 use lalrpop_base::collections::{Collection, Set, push_twice};
@@ -9,6 +10,7 @@ use lalrpop_base::lookahead::token::Token;
 use lalrpop_base::lookahead::token_set::TokenSet;
 use lalrpop_base::lr1_core::item::Item;
 use lalrpop_base::lr1_core::state::StateIndex;
+use lalrpop_base::repr::grammar::Grammar;
 use lalrpop_base::repr::terminals::{TerminalSet, TerminalSetError};
 use lalrpop_base::repr::{Production, TerminalString};
 use lalrpop_base::sequence::Sequence;
@@ -16,7 +18,7 @@ use refused_growth::attempts::Attempt;
 use std::alloc::Global;
 use std::test::Fail;
 use test_fixtures::growths::each_growth_refused;
-use test_fixtures::texts::{ONE, first_production, grammar, literal};
+use test_fixtures::texts::{ONE, first_production, literal};
 
 // A map with the key 1 alone, into which a value is pushed under the key 2, by the key and the
 // value or by their pair.
@@ -43,15 +45,11 @@ impl Attempt for NewKey {
     }
 }
 
-#[test]
-fn a_new_key(rt: HostRuntime) -> Result<(), Fail> {
-    let alloc = rt.alloc();
-    for is_pair in [false, true] {
-        let mut map = Multimap::new(alloc);
-        map.push(1, 5)?;
-        each_growth_refused(alloc, &mut NewKey { map, is_pair })?;
-    }
-    Ok(())
+/// Pushes under a new key while allocations are refused.
+pub(crate) fn new_key(alloc: Global, is_pair: bool) -> Result<(), Fail> {
+    let mut map = Multimap::new(alloc);
+    map.push(1, 5)?;
+    each_growth_refused(alloc, &mut NewKey { map, is_pair })
 }
 
 // A map that is made of three pairs.
@@ -80,14 +78,13 @@ impl Attempt for Pairs {
     }
 }
 
-#[test]
-fn a_map_of_pairs(rt: HostRuntime) -> Result<(), Fail> {
-    let alloc = rt.alloc();
+/// Makes a map of pairs while allocations are refused.
+pub(crate) fn map_of_pairs(alloc: Global) -> Result<(), Fail> {
     each_growth_refused(alloc, &mut Pairs { last: 9 })
 }
 
 // How a token is added to an empty set.
-#[derive(Clone, Copy, PartialEq, Eq)]
+#[derive(Clone, Copy)]
 enum How {
     Joined,
     JoinedTwice,
@@ -115,7 +112,7 @@ impl Attempt for Joined<'_> {
                 Err(error) => Err(error),
             },
         };
-        let is_twice = self.how == How::JoinedTwice;
+        let is_twice = matches!(self.how, How::JoinedTwice);
         match (joined, self.set.len()) {
             (Ok(changed), count) => Some(changed != is_twice && count == 1),
             (Err(_), 0) => None,
@@ -125,19 +122,23 @@ impl Attempt for Joined<'_> {
     }
 }
 
-// After an allocation failure, a set that is joined twice can have the token.
-#[test]
-fn a_joined_set(rt: HostRuntime) -> Result<(), Fail> {
-    let alloc = rt.alloc();
+// Adds a token in one way.
+fn each_joined(alloc: Global, terminals: &TerminalSet, how: How) -> Result<(), Fail> {
+    let mut joined = Joined {
+        set: TokenSet::new(alloc, terminals),
+        other: TokenSet::eof(alloc, terminals)?,
+        terminals,
+        how,
+    };
+    each_growth_refused(alloc, &mut joined)
+}
+
+/// Adds a token in each way while allocations are refused. After an allocation failure, a set that is
+/// joined twice can have the token.
+pub(crate) fn all_joined(alloc: Global) -> Result<(), Fail> {
     let terminals = TerminalSet::new(alloc, literals(alloc, &["x", "y"])?)?;
     for how in [How::Joined, How::JoinedTwice, How::Inserted, How::InRoom] {
-        let mut joined = Joined {
-            set: TokenSet::new(alloc, &terminals),
-            other: TokenSet::eof(alloc, &terminals)?,
-            terminals: &terminals,
-            how,
-        };
-        each_growth_refused(alloc, &mut joined)?;
+        each_joined(alloc, &terminals, how)?;
     }
     Ok(())
 }
@@ -162,9 +163,8 @@ impl Attempt for Repeated {
     }
 }
 
-#[test]
-fn a_repeated_terminal(rt: HostRuntime) -> Result<(), Fail> {
-    let alloc = rt.alloc();
+/// Makes a set of a list that repeats a terminal while allocations are refused.
+pub(crate) fn repeated_terminal(alloc: Global) -> Result<(), Fail> {
     let mut repeated = Repeated {
         list: literals(alloc, &["a", "b", "c", "b", "a"])?,
         expected: TerminalSetError::Repeated(literal(alloc, "b")?),
@@ -188,9 +188,8 @@ impl Attempt for PushedTwice {
     }
 }
 
-#[test]
-fn a_number_pushed_twice(rt: HostRuntime) -> Result<(), Fail> {
-    let alloc = rt.alloc();
+/// Pushes a number twice while allocations are refused.
+pub(crate) fn pushed_twice(alloc: Global) -> Result<(), Fail> {
     let set = Collection::empty(alloc);
     each_growth_refused(alloc, &mut PushedTwice { set })
 }
@@ -217,11 +216,25 @@ impl Attempt for FirstKernel<'_> {
     }
 }
 
-#[test]
-fn a_first_kernel(rt: HostRuntime) -> Result<(), Fail> {
-    let alloc = rt.alloc();
-    let grammar = grammar(alloc, ONE)?;
-    let production = first_production(alloc, &grammar, "S")?;
+/// Adds a kernel to a set without kernels, while allocations are refused.
+pub(crate) fn first_kernel(alloc: Global, grammar: &Grammar) -> Result<bool, Fail> {
+    let production = first_production(alloc, grammar, "S")?;
     let set = KernelSet::new(alloc);
-    each_growth_refused(alloc, &mut FirstKernel { set, production })
+    each_growth_refused(alloc, &mut FirstKernel { set, production })?;
+    Ok(true)
+}
+
+const SETS: [Case; 7] = [
+    (Ask::Refused(Refused::NewKey(false)), ""),
+    (Ask::Refused(Refused::NewKey(true)), ""),
+    (Ask::Refused(Refused::MapOfPairs), ""),
+    (Ask::Refused(Refused::Joined), ""),
+    (Ask::Refused(Refused::Repeated), ""),
+    (Ask::Refused(Refused::PushedTwice), ""),
+    (Ask::FirstKernel, ONE),
+];
+
+#[test]
+fn sets(rt: HostRuntime) -> Result<(), Fail> {
+    expect(rt.alloc(), &SETS)
 }
