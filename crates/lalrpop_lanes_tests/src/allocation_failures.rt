@@ -1,4 +1,5 @@
 // What calls leave after a refused allocation.
-mod lane_tables;
-mod reads;
-mod traces;
+pub(crate) mod lane_tables;
+pub(crate) mod merges;
+pub(crate) mod reads;
+pub(crate) mod traces;

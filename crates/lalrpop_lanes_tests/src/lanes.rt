@@ -4,9 +4,9 @@ ghost use Rattle.std.specs.Prelude.{IfSome};
 ghost use Rattle.lalrpop_base.specs.Words.{IsWellFormed};
 ghost use Rattle.lalrpop_lane_states.specs.Words.{IsMerging};
 
+use crate::asked::{Ask, Case, expect};
+use crate::tables::table_of;
 use grammar_text::symbols::name_of;
-use lalrpop_base::collections::Set;
-use lalrpop_base::lookahead::token_set::TokenSet;
 use lalrpop_base::lr1_core::coherent::are_coherent;
 use lalrpop_base::lr1_core::state::{Action, BuildError, Lr1State, StateIndex};
 use lalrpop_base::memory::OutOfMemory;
@@ -14,12 +14,11 @@ use lalrpop_base::repr::grammar::Grammar;
 use lalrpop_lane_states::lane_table::build_lane_table_states;
 use lalrpop_lane_states::lane_table::construct::LaneTableConstruct;
 use lalrpop_lane_states::lane_table::construct::merge::{Merge, MergeError};
-use lalrpop_lane_states::lane_table::context_set::ConflictIndex;
 use lalrpop_lane_states::lane_table::table::LaneTable;
 use std::alloc::Global;
 use std::collections::BTreeSet;
 use std::test::Fail;
-use test_fixtures::texts::{CROSSED, SUMS, first_production, grammar, literal, only};
+use test_fixtures::texts::{CROSSED, SUMS, first_production, literal};
 
 /// The LR(0) states, promoted to all tokens, as the lane method leaves them with a limit of no
 /// copies.
@@ -33,21 +32,6 @@ pub(crate) fn crossed_states<'g>(
         Err(BuildError::Conflicts(error)) => Ok(error.states),
         _ => Err(Fail::from("no conflict")),
     }
-}
-
-// A table in which S1 has "d" in column 0 and the successor S5. S5 has the given tokens in
-// column 1.
-fn chained_table<'g>(
-    alloc: Global,
-    grammar: &'g Grammar,
-    behind: &TokenSet,
-) -> Result<LaneTable<'g>, OutOfMemory> {
-    let d = only(alloc, "d", &grammar.terminals)?;
-    let mut table = LaneTable::new(alloc, grammar, 2);
-    table.add_lookahead(StateIndex(1), ConflictIndex::new(0), &d)?;
-    table.add_successor(StateIndex(1), StateIndex(5))?;
-    table.add_lookahead(StateIndex(5), ConflictIndex::new(1), behind)?;
-    Ok(table)
 }
 
 /// The merging of states by a table, from the inconsistent state S5. `None` if the states and the
@@ -95,67 +79,103 @@ pub(crate) fn start(
     Some(merge.start(alloc, state))
 }
 
-// A successor is joined with a state if no two columns share a token. Else the two states are
-// apart.
-#[test]
-fn successors_are_joined_or_apart(rt: HostRuntime) -> Result<(), Fail> {
-    let alloc = rt.alloc();
-    let grammar = grammar(alloc, CROSSED)?;
-    let apart = MergeError::Apart(StateIndex(1), StateIndex(5));
-    for (behind, answer) in [("e", Ok(())), ("d", Err(apart))] {
-        let tokens = only(alloc, behind, &grammar.terminals)?;
-        let table = chained_table(alloc, &grammar, &tokens)?;
-        let states = crossed_states(alloc, &grammar)?;
-        let Some(mut merge) = merge_of(alloc, &table, states, 1) else {
-            panic!(rt; "no merging");
-        };
-        assert!(rt; start(alloc, &mut merge, 1) == Some(answer));
-        assert!(rt; are_coherent(&merge.into_states()));
-    }
-    Ok(())
+/// Whether a successor is joined with a state if no two columns share a token. Else the two states
+/// are apart. S1 has "d" in column 0 and the successor S5, which has "e" in column 1, or "d".
+pub(crate) fn is_joined(alloc: Global, grammar: &Grammar, is_apart: bool) -> Result<bool, Fail>
+    requires { IsWellFormed grammar.now }
+{
+    let after = if is_apart { "d" } else { "e" };
+    let table = table_of(alloc, grammar, &[(1, 0, "d"), (5, 1, after)], &[(1, 5)])?;
+    let states = crossed_states(alloc, grammar)?;
+    Ok(starts(alloc, &table, states, is_apart))
 }
 
-// A set of two actions.
-fn two_actions<'g>(
+// Whether a merging starts at S1 if its successor is not apart. It leaves coherent states.
+fn starts<'g>(
     alloc: Global,
-    first: Action<'g>,
-    second: Action<'g>,
-) -> Result<Set<Action<'g>>, OutOfMemory> {
-    let mut actions = BTreeSet::new(alloc);
-    actions.insert(first)?;
-    actions.insert(second)?;
-    Ok(actions)
-}
-
-// A merging cannot start at a state without a row. It is not patchable by fewer actions than there
-// are columns, or by other actions than the reductions of S5.
-#[test]
-fn merges_that_may_not_go_on(rt: HostRuntime) -> Result<(), Fail> {
-    let alloc = rt.alloc();
-    let grammar = grammar(alloc, CROSSED)?;
-    let tokens = only(alloc, "e", &grammar.terminals)?;
-    let table = chained_table(alloc, &grammar, &tokens)?;
-    let Some(merge) = merge_of(alloc, &table, crossed_states(alloc, &grammar)?, 1) else {
-        panic!(rt; "no merging");
+    table: &LaneTable<'g>,
+    states: Vec<Lr1State<'g>>,
+    is_apart: bool,
+) -> bool {
+    let Some(mut merge) = merge_of(alloc, table, states, 1) else {
+        return false;
     };
-    assert!(rt; merge.has_row(StateIndex(1)) && !merge.has_row(StateIndex(0)));
-    let a = Action::Reduce(first_production(alloc, &grammar, "A")?);
-    let b = Action::Reduce(first_production(alloc, &grammar, "B")?);
-    let mut one = BTreeSet::new(alloc);
-    one.insert(a.clone(alloc)?)?;
-    assert!(rt; !merge.is_patchable(&one));
-    let shift = Action::Shift(literal(alloc, "a")?, StateIndex(1));
-    assert!(rt; !merge.is_patchable(&two_actions(alloc, a.clone(alloc)?, shift)?));
-    assert!(rt; merge.is_patchable(&two_actions(alloc, a, b)?));
-    Ok(())
+    let started = start(alloc, &mut merge, 1);
+    let expected = if is_apart {
+        Err(MergeError::Apart(StateIndex(1), StateIndex(5)))
+    } else {
+        Ok(())
+    };
+    started == Some(expected) && are_coherent(&merge.into_states())
 }
 
-#[test]
-fn a_construction_of_its_own(rt: HostRuntime) -> Result<(), Fail> {
-    let alloc = rt.alloc();
-    let grammar = grammar(alloc, SUMS)?;
-    let construct = LaneTableConstruct::new(alloc, &grammar, name_of(alloc, "S")?, 0)?;
+/// Whether a merging cannot start at a state without a row, and is patchable by the right actions
+/// alone.
+pub(crate) fn is_stopped(alloc: Global, grammar: &Grammar) -> Result<bool, Fail>
+    requires { IsWellFormed grammar.now }
+{
+    let table = table_of(alloc, grammar, &[(1, 0, "d"), (5, 1, "e")], &[(1, 5)])?;
+    let states = crossed_states(alloc, grammar)?;
+    let Some(merge) = merge_of(alloc, &table, states, 1) else {
+        return Ok(false);
+    };
+    if !merge.has_row(StateIndex(1)) || merge.has_row(StateIndex(0)) {
+        return Ok(false);
+    }
+    is_patched_well(alloc, grammar, &merge)
+}
+
+// Whether a merging is not patchable by fewer actions than there are columns, or by other actions
+// than the reductions of S5.
+fn is_patched_well<'g>(
+    alloc: Global,
+    grammar: &'g Grammar,
+    merge: &Merge<'_, 'g>,
+) -> Result<bool, Fail>
+    requires { IsMerging merge.now }
+{
+    let a = Action::Reduce(first_production(alloc, grammar, "A")?);
+    let b = Action::Reduce(first_production(alloc, grammar, "B")?);
+    let shift = Action::Shift(literal(alloc, "a")?, StateIndex(1));
+    Ok(
+        !is_patched(alloc, merge, &a, &a)?
+            && !is_patched(alloc, merge, &a, &shift)?
+            && is_patched(alloc, merge, &a, &b)?,
+    )
+}
+
+// Whether a merging is patchable by a set of two actions, or of one that is given twice.
+fn is_patched<'g>(
+    alloc: Global,
+    merge: &Merge<'_, 'g>,
+    first: &Action<'g>,
+    second: &Action<'g>,
+) -> Result<bool, OutOfMemory>
+    requires { IsMerging merge.now }
+{
+    let mut actions = BTreeSet::new(alloc);
+    actions.insert(first.clone(alloc)?)?;
+    actions.insert(second.clone(alloc)?)?;
+    Ok(merge.is_patchable(&actions))
+}
+
+/// Whether a construction of its own makes 9 states.
+pub(crate) fn is_constructed(alloc: Global, grammar: &Grammar) -> Result<bool, Fail>
+    requires { IsWellFormed grammar.now }
+{
+    let construct = LaneTableConstruct::new(alloc, grammar, name_of(alloc, "S")?, 0)?;
     let states = construct.construct(alloc)?;
-    assert_eq!(rt; states.len(), 9);
-    Ok(())
+    Ok(states.len() == 9)
+}
+
+const LANES: [Case; 4] = [
+    (Ask::Joined(false), CROSSED),
+    (Ask::Joined(true), CROSSED),
+    (Ask::Stopped, CROSSED),
+    (Ask::Constructed, SUMS),
+];
+
+#[test]
+fn lanes(rt: HostRuntime) -> Result<(), Fail> {
+    expect(rt.alloc(), &LANES)
 }

@@ -5,4 +5,8 @@
 #[cfg(test)]
 mod allocation_failures;
 #[cfg(test)]
+mod asked;
+#[cfg(test)]
 mod lanes;
+#[cfg(test)]
+mod tables;

@@ -1,18 +1,17 @@
 // Calls that read a lane table or a context set, which are made before. So each refused allocation is
 // one of the call itself.
+use crate::asked::{Ask, expect};
+use crate::tables::table_of;
 use lalrpop_base::lr1_core::state::StateIndex;
-use lalrpop_base::memory::OutOfMemory;
 use lalrpop_base::repr::grammar::Grammar;
-use lalrpop_lane_states::lane_table::context_set::{
-    ConflictIndex, ContextSet, OverlappingLookahead,
-};
+use lalrpop_lane_states::lane_table::context_set::{ContextSet, OverlappingLookahead};
 use lalrpop_lane_states::lane_table::table::LaneTable;
 use lalrpop_lane_states::lane_table::table::rows::RowsError;
 use refused_growth::attempts::Attempt;
 use std::alloc::Global;
 use std::test::Fail;
 use test_fixtures::growths::each_growth_refused;
-use test_fixtures::texts::{CROSSED, grammar, only};
+use test_fixtures::texts::CROSSED;
 
 // A call that reads a lane table or a context set.
 #[derive(Clone, Copy)]
@@ -67,39 +66,39 @@ impl Attempt for Rows<'_, '_> {
     }
 }
 
-// A table with one row.
-fn table_of_one_row<'g>(alloc: Global, grammar: &'g Grammar) -> Result<LaneTable<'g>, OutOfMemory> {
-    let d = only(alloc, "d", &grammar.terminals)?;
-    let e = only(alloc, "e", &grammar.terminals)?;
-    let mut table = LaneTable::new(alloc, grammar, 2);
-    table.add_lookahead(StateIndex(1), ConflictIndex::new(0), &d)?;
-    table.add_lookahead(StateIndex(1), ConflictIndex::new(1), &e)?;
-    Ok(table)
+const CALLS: [ReadsTable; 6] = [
+    ReadsTable::Columns,
+    ReadsTable::Row,
+    ReadsTable::Rows,
+    ReadsTable::Beachheads,
+    ReadsTable::Union,
+    ReadsTable::Copy,
+];
+
+/// Makes each call on a table with one row while its allocations are refused.
+pub(crate) fn reads(alloc: Global, grammar: &Grammar) -> Result<bool, Fail> {
+    let table = table_of(alloc, grammar, &[(1, 0, "d"), (1, 1, "e")], &[])?;
+    let Ok(row) = table.context_set(alloc, StateIndex(1)) else {
+        return Err(Fail::from("no row"));
+    };
+    each_read(alloc, &table, &row, &CALLS)
+}
+
+// Makes each call while its allocations are refused.
+fn each_read(
+    alloc: Global,
+    table: &LaneTable<'_>,
+    row: &ContextSet,
+    calls: &[ReadsTable],
+) -> Result<bool, Fail> {
+    for call in calls {
+        let call = *call;
+        each_growth_refused(alloc, &mut Rows { call, table, row })?;
+    }
+    Ok(true)
 }
 
 #[test]
 fn calls_that_read_a_lane_table(rt: HostRuntime) -> Result<(), Fail> {
-    let alloc = rt.alloc();
-    let grammar = grammar(alloc, CROSSED)?;
-    let table = table_of_one_row(alloc, &grammar)?;
-    let Ok(row) = table.context_set(alloc, StateIndex(1)) else {
-        return Err(Fail::from("no row"));
-    };
-    let calls = [
-        ReadsTable::Columns,
-        ReadsTable::Row,
-        ReadsTable::Rows,
-        ReadsTable::Beachheads,
-        ReadsTable::Union,
-        ReadsTable::Copy,
-    ];
-    for call in calls {
-        let mut read = Rows {
-            call,
-            table: &table,
-            row: &row,
-        };
-        each_growth_refused(alloc, &mut read)?;
-    }
-    Ok(())
+    expect(rt.alloc(), &[(Ask::Reads, CROSSED)])
 }

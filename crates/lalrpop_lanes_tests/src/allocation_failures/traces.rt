@@ -4,7 +4,7 @@ ghost use Rattle.std.specs.Prelude.{◌<◌, length};
 ghost use Rattle.lalrpop_base.specs.Words.{AreCoherent, IsWellFormed, productions};
 ghost use Rattle.lalrpop_lanes.specs.Words.{HaveOwnItems, ReducesOwn};
 
-use crate::lanes::crossed_states;
+use crate::asked::{Ask, Case, OfStates, expect};
 use grammar_text::symbols::name_of;
 use lalrpop_base::first::FirstSets;
 use lalrpop_base::lr1_core::coherent::are_coherent;
@@ -19,7 +19,7 @@ use refused_growth::attempts::Attempt;
 use std::alloc::Global;
 use std::test::Fail;
 use test_fixtures::growths::each_growth_refused;
-use test_fixtures::texts::{CROSSED, first_production, grammar, literal};
+use test_fixtures::texts::{CROSSED, first_production, literal};
 
 // Symbols that are traced back from S5.
 #[derive(Drop)]
@@ -37,17 +37,15 @@ impl Attempt for TracedBack<'_> {
     }
 }
 
-#[test]
-fn states_traced_back(rt: HostRuntime) -> Result<(), Fail> {
-    let alloc = rt.alloc();
-    let grammar = grammar(alloc, CROSSED)?;
-    let states = crossed_states(alloc, &grammar)?;
-    let graph = StateGraph::new(alloc, &states)?;
+/// Traces symbols back from S5 while allocations are refused.
+pub(crate) fn traced_back(alloc: Global, states: &[Lr1State<'_>]) -> Result<bool, Fail> {
+    let graph = StateGraph::new(alloc, states)?;
     let mut traced = TracedBack {
         graph: &graph,
         symbols: vec![in alloc; Symbol::Terminal(literal(alloc, "c")?)]?,
     };
-    each_growth_refused(alloc, &mut traced)
+    each_growth_refused(alloc, &mut traced)?;
+    Ok(true)
 }
 
 // A reduction of S5, whose lane is traced where a shift of S0 is in the table.
@@ -150,17 +148,29 @@ impl Attempt for TracedLane<'_, '_> {
     }
 }
 
-#[test]
-fn a_traced_lane(rt: HostRuntime) -> Result<(), Fail> {
-    let alloc = rt.alloc();
-    let grammar = grammar(alloc, CROSSED)?;
-    let states = crossed_states(alloc, &grammar)?;
+/// Traces the lane of a reduction while allocations are refused.
+pub(crate) fn traced_lane<'g>(
+    alloc: Global,
+    grammar: &'g Grammar,
+    states: &[Lr1State<'g>],
+) -> Result<bool, Fail> {
     let mut traced = TracedLane {
-        grammar: &grammar,
+        grammar,
         start: &name_of(alloc, "S")?,
-        states: &states,
+        states,
         shifted: &literal(alloc, "a")?,
-        reduce: &Action::Reduce(first_production(alloc, &grammar, "A")?),
+        reduce: &Action::Reduce(first_production(alloc, grammar, "A")?),
     };
-    each_growth_refused(alloc, &mut traced)
+    each_growth_refused(alloc, &mut traced)?;
+    Ok(true)
+}
+
+const TRACES: [Case; 2] = [
+    (Ask::States(OfStates::TracedBack), CROSSED),
+    (Ask::States(OfStates::TracedLane), CROSSED),
+];
+
+#[test]
+fn traces(rt: HostRuntime) -> Result<(), Fail> {
+    expect(rt.alloc(), &TRACES)
 }
