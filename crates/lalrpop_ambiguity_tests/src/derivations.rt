@@ -1,14 +1,17 @@
 // A derivation of many nodes, each the first child of the one around it, which no function walks by
 // recursion.
-use crate::searches::CALCULATOR;
+ghost use Rattle.lalrpop_base.specs.Words.{IsWellFormed};
+
+use crate::asked::text_of;
 use crate::witnesses::bare;
 use lalrpop_ambiguity::derivation::Derivation;
 use lalrpop_ambiguity::witness::{Ambiguity, is_witness};
 use lalrpop_base::memory::OutOfMemory;
 use lalrpop_base::repr::Production;
+use lalrpop_base::repr::grammar::Grammar;
 use std::alloc::Global;
 use std::test::Fail;
-use test_fixtures::texts::{first_production, grammar};
+use test_fixtures::texts::first_production;
 
 const DEPTH: usize = 100_000;
 
@@ -26,24 +29,38 @@ fn deep<'g>(alloc: Global, sum: &'g Production) -> Result<Derivation<'g>, OutOfM
     Ok(tree)
 }
 
-#[test]
-fn deep_derivations(rt: HostRuntime) -> Result<(), Fail> {
-    let alloc = rt.alloc();
-    let grammar = grammar(alloc, CALCULATOR)?;
-    let tree = deep(alloc, first_production(alloc, &grammar, "E")?)?;
-    let copy = tree.clone(alloc)?;
-    assert!(rt; copy == tree);
-    assert_eq!(rt; tree.leaves(alloc)?.len(), 2 * DEPTH + 3);
-    assert!(rt; !is_witness(alloc, &grammar, &tree, &copy)?);
+/// Whether two deep derivations are the same, and no witness, and have the right leaves, texts and
+/// marks.
+pub(crate) fn deep_pair(alloc: Global, grammar: &Grammar) -> Result<String, Fail>
+    requires { IsWellFormed grammar.now }
+{
+    let left = deep(alloc, first_production(alloc, grammar, "E")?)?;
+    let right = left.clone(alloc)?;
+    let found = Ambiguity { left, right };
+    text_of(alloc, is_deep(alloc, grammar, &found)?)
+}
+
+// Whether it is so for two derivations.
+fn is_deep(alloc: Global, grammar: &Grammar, found: &Ambiguity<'_>) -> Result<bool, Fail>
+    requires { IsWellFormed grammar.now }
+{
+    let is_twice = found.right == found.left;
+    if !is_twice || is_witness(alloc, grammar, &found.left, &found.right)? {
+        return Ok(false);
+    }
+    Ok(has_texts(alloc, &found.left)? && has_marks(alloc, found)?)
+}
+
+// Whether a deep derivation has so many leaves, and the right end of its text.
+fn has_texts(alloc: Global, tree: &Derivation<'_>) -> Result<bool, Fail> {
+    let count = tree.leaves(alloc)?.len();
     let text = format!(in alloc; "{tree}")?;
-    assert!(rt; text.as_str().ends_with("\"+\" E]"));
-    let found = Ambiguity {
-        left: tree,
-        right: copy,
-    };
+    Ok(count == 2 * DEPTH + 3 && text.as_str().ends_with("\"+\" E]"))
+}
+
+// Whether all moves of two derivations are in common, and the mark of the first is at its end.
+fn has_marks(alloc: Global, found: &Ambiguity<'_>) -> Result<bool, Fail> {
     let moves = found.common_moves(alloc)?;
-    assert_eq!(rt; moves, 3 * DEPTH + 4);
     let marked = found.left.marked_text(alloc, moves)?;
-    assert!(rt; marked.as_str().ends_with("\"+\" E] (*)"));
-    Ok(())
+    Ok(moves == 3 * DEPTH + 4 && marked.as_str().ends_with("\"+\" E] (*)"))
 }

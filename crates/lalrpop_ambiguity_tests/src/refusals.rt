@@ -1,8 +1,6 @@
 // Searches, and texts with marks, while allocations are refused.
-ghost use Rattle.lalrpop_base.specs.Words.{IsWellFormed};
-
-use crate::searches::{CALCULATOR, conflicts};
-use crate::witnesses::{bare, with_child};
+use crate::asked::{Ask, Case, OfConflicts, expect};
+use crate::searches::CALCULATOR;
 use lalrpop_ambiguity::search::{Search, find_ambiguity};
 use lalrpop_ambiguity::witness::Ambiguity;
 use lalrpop_base::lr1_core::state::Lr1TableConstructionError;
@@ -11,7 +9,6 @@ use refused_growth::attempts::Attempt;
 use std::alloc::Global;
 use std::test::Fail;
 use test_fixtures::growths::each_growth_refused;
-use test_fixtures::texts::{first_production, grammar};
 
 // The search for the first conflict.
 #[derive(Drop)]
@@ -34,18 +31,14 @@ impl Attempt for First<'_, '_> {
     }
 }
 
-#[test]
-fn a_search(rt: HostRuntime) -> Result<(), Fail> {
-    let alloc = rt.alloc();
-    let grammar = grammar(alloc, CALCULATOR)?;
-    let error = conflicts(alloc, &grammar)?;
-    each_growth_refused(
-        alloc,
-        &mut First {
-            grammar: &grammar,
-            error: &error,
-        },
-    )
+/// Searches for the first conflict while allocations are refused.
+pub(crate) fn each_search_refused<'g>(
+    alloc: Global,
+    grammar: &'g Grammar,
+    error: &Lr1TableConstructionError<'g>,
+) -> Result<String, Fail> {
+    each_growth_refused(alloc, &mut First { grammar, error })?;
+    Ok(String::new(alloc))
 }
 
 // The text of a derivation with its mark.
@@ -67,14 +60,18 @@ impl Attempt for Marked<'_, '_> {
     }
 }
 
+/// Marks a derivation while allocations are refused.
+pub(crate) fn each_mark_refused(alloc: Global, found: &Ambiguity<'_>) -> Result<String, Fail> {
+    each_growth_refused(alloc, &mut Marked { found })?;
+    Ok(String::new(alloc))
+}
+
+const REFUSALS: [Case; 2] = [
+    (Ask::Conflicts(OfConflicts::Refused), CALCULATOR, ""),
+    (Ask::Sums(true), CALCULATOR, ""),
+];
+
 #[test]
-fn a_text_with_a_mark(rt: HostRuntime) -> Result<(), Fail> {
-    let alloc = rt.alloc();
-    let grammar = grammar(alloc, CALCULATOR)?;
-    let sum = first_production(alloc, &grammar, "E")?;
-    let found = Ambiguity {
-        left: with_child(alloc, sum, 0, bare(alloc, sum)?)?,
-        right: with_child(alloc, sum, 2, bare(alloc, sum)?)?,
-    };
-    each_growth_refused(alloc, &mut Marked { found: &found })
+fn refusals(rt: HostRuntime) -> Result<(), Fail> {
+    expect(rt.alloc(), &REFUSALS)
 }

@@ -1,6 +1,8 @@
 // Searches of small grammars. The expected witnesses are the shortest ones, worked out by hand.
 ghost use Rattle.lalrpop_base.specs.Words.{IsWellFormed};
 
+use crate::asked::{Ask, Case, OfConflicts, expect};
+use crate::marks::marked_line;
 use grammar_text::symbols::name_of;
 use lalrpop_ambiguity::search::{Search, find_ambiguity};
 use lalrpop_base::lookahead::nil::Nil;
@@ -10,7 +12,6 @@ use lalrpop_construction::construction::canonical::build_canonical_states;
 use lalrpop_construction::construction::lr::Lr;
 use std::alloc::Global;
 use std::test::Fail;
-use test_fixtures::texts::grammar;
 
 /// Sums and products without precedence.
 pub(crate) const CALCULATOR: &str = "S = E\nE = E \"+\" E\nE = E \"*\" E\nE = \"NUM\"";
@@ -29,81 +30,85 @@ pub(crate) fn conflicts<'g>(
     }
 }
 
-// What is found for each conflict in so many steps, in lines.
-fn searched(alloc: Global, text: &str, steps: usize) -> Result<String, Fail> {
-    let grammar = grammar(alloc, text)?;
-    let error = conflicts(alloc, &grammar)?;
+/// What is found for each conflict in so many steps, in lines, with marks or without.
+pub(crate) fn lines<'g>(
+    alloc: Global,
+    grammar: &'g Grammar,
+    error: &Lr1TableConstructionError<'g>,
+    steps: usize,
+    is_marked: bool,
+) -> Result<String, Fail>
+    requires { IsWellFormed grammar.now }
+{
     let mut lines = String::new(alloc);
     for conflict in &error.conflicts {
-        match find_ambiguity(alloc, &grammar, &error.states, conflict, steps)? {
-            Search::Found(found) => write!(lines, "{} {}\n", found.left, found.right)?,
-            Search::Exhausted => lines.push_str("exhausted\n")?,
-            Search::Cut => lines.push_str("cut\n")?,
-        }
+        let search = find_ambiguity(alloc, grammar, &error.states, conflict, steps)?;
+        lines.push_str(line(alloc, &search, is_marked)?.as_str())?;
     }
     Ok(lines)
 }
 
-#[test]
-fn calculator(rt: HostRuntime) -> Result<(), Fail> {
-    let alloc = rt.alloc();
-    let expected = "\
+// What is found, in a line.
+fn line(alloc: Global, search: &Search<'_>, is_marked: bool) -> Result<String, Fail> {
+    if is_marked {
+        return marked_line(alloc, search);
+    }
+    match search {
+        Search::Found(found) => Ok(format!(in alloc; "{} {}\n", found.left, found.right)?),
+        Search::Exhausted => Ok(format!(in alloc; "exhausted\n")?),
+        Search::Cut => Ok(format!(in alloc; "cut\n")?),
+    }
+}
+
+const CALCULATOR_FOUND: &str = "\
 [E: [E: E \"*\" E] \"*\" E] [E: E \"*\" [E: E \"*\" E]]
 [E: [E: E \"*\" E] \"+\" E] [E: E \"*\" [E: E \"+\" E]]
 [E: [E: E \"+\" E] \"*\" E] [E: E \"+\" [E: E \"*\" E]]
 [E: [E: E \"+\" E] \"+\" E] [E: E \"+\" [E: E \"+\" E]]
 ";
-    assert_eq!(rt; searched(alloc, CALCULATOR, 1000)?.as_str(), expected);
-    Ok(())
-}
 
-#[test]
-fn dangling_else(rt: HostRuntime) -> Result<(), Fail> {
-    let alloc = rt.alloc();
-    let text = "S = T\nT = \"if\" \"e\" T\nT = \"if\" \"e\" T \"else\" T\nT = \"a\"";
-    let expected = "\
+const DANGLING_ELSE: &str = "S = T\nT = \"if\" \"e\" T\nT = \"if\" \"e\" T \"else\" T\nT = \"a\"";
+
+const DANGLING_ELSE_FOUND: &str = "\
 [T: \"if\" \"e\" [T: \"if\" \"e\" T] \"else\" T] [T: \"if\" \"e\" [T: \"if\" \"e\" T \"else\" T]]
 ";
-    assert_eq!(rt; searched(alloc, text, 1000)?.as_str(), expected);
-    Ok(())
-}
 
 // The operators of Lua, by nonterminals of their own. The first conflicts are those of a unary
 // operator before a binary one.
-#[test]
-fn operators(rt: HostRuntime) -> Result<(), Fail> {
-    let alloc = rt.alloc();
-    let text = "S = X\nX = \"n\"\nX = X B X\nX = U X\nB = \"+\"\nB = \"-\"\nU = \"-\"\nU = \"not\"";
-    let expected = "\
+const OPERATORS: &str =
+    "S = X\nX = \"n\"\nX = X B X\nX = U X\nB = \"+\"\nB = \"-\"\nU = \"-\"\nU = \"not\"";
+
+const OPERATORS_FOUND: &str = "\
 [X: [X: U X] [B: \"+\"] X] [X: U [X: X [B: \"+\"] X]]
 [X: [X: U X] [B: \"-\"] X] [X: U [X: X [B: \"-\"] X]]
 [X: [X: X B X] [B: \"+\"] X] [X: X B [X: X [B: \"+\"] X]]
 [X: [X: X B X] [B: \"-\"] X] [X: X B [X: X [B: \"-\"] X]]
 ";
-    assert_eq!(rt; searched(alloc, text, 1000)?.as_str(), expected);
-    Ok(())
-}
 
-// The first grammar needs two tokens of lookahead, and is unambiguous. The second is unambiguous,
-// too, but its derivations have no greatest length. The third has a production twice.
+/// A grammar that needs two tokens of lookahead, and is unambiguous.
+pub(crate) const TWO_TOKENS: &str = "S = A \"x\" \"y\"\nS = B \"x\" \"z\"\nA = \"a\"\nB = \"a\"";
+
+// An unambiguous grammar whose derivations have no greatest length.
+const MIRRORED: &str = "S = P\nP = \"a\" P \"a\"\nP =";
+
+const SEARCHED: Ask = Ask::Conflicts(OfConflicts::Searched(1000));
+
+// The last grammar but one has a production twice. The last search has too few steps.
+const SEARCHES: [Case; 7] = [
+    (SEARCHED, CALCULATOR, CALCULATOR_FOUND),
+    (SEARCHED, DANGLING_ELSE, DANGLING_ELSE_FOUND),
+    (SEARCHED, OPERATORS, OPERATORS_FOUND),
+    (SEARCHED, TWO_TOKENS, "exhausted\n"),
+    (SEARCHED, MIRRORED, "exhausted\ncut\n"),
+    (SEARCHED, "S = \"a\"\nS = \"a\"", "[S: \"a\"] [S: \"a\"]\n"),
+    (
+        Ask::Conflicts(OfConflicts::Searched(1)),
+        CALCULATOR,
+        "cut\ncut\ncut\ncut\n",
+    ),
+];
+
 #[test]
-fn no_witness_and_twins(rt: HostRuntime) -> Result<(), Fail> {
-    let alloc = rt.alloc();
-    let two_tokens = "S = A \"x\" \"y\"\nS = B \"x\" \"z\"\nA = \"a\"\nB = \"a\"";
-    assert_eq!(rt; searched(alloc, two_tokens, 1000)?.as_str(), "exhausted\n");
-    let mirrored = "S = P\nP = \"a\" P \"a\"\nP =";
-    assert_eq!(rt;
-        searched(alloc, mirrored, 1000)?.as_str(),
-        "exhausted\ncut\n"
-    );
-    assert_eq!(rt;
-        searched(alloc, CALCULATOR, 1)?.as_str(),
-        "cut\ncut\ncut\ncut\n"
-    );
-    let twins = "S = \"a\"\nS = \"a\"";
-    assert_eq!(rt;
-        searched(alloc, twins, 1000)?.as_str(),
-        "[S: \"a\"] [S: \"a\"]\n"
-    );
-    Ok(())
+fn searches(rt: HostRuntime) -> Result<(), Fail> {
+    expect(rt.alloc(), &SEARCHES)
 }
