@@ -1,2 +1,2 @@
 // What calls leave after a refused allocation.
-mod constructions;
+pub(crate) mod constructions;

@@ -5,6 +5,8 @@
 #[cfg(test)]
 mod allocation_failures;
 #[cfg(test)]
+mod asked;
+#[cfg(test)]
 mod without_lookahead;
 pub mod word_lookahead;
 #[cfg(test)]

@@ -1,6 +1,7 @@
 // States with words as lookaheads, made by the construction that is generic in the lookahead.
 ghost use Rattle.lalrpop_base.specs.Words.{IsWellFormed};
 
+use crate::asked::{Ask, Case, expect};
 use crate::word_lookahead::Word;
 use grammar_text::symbols::name_of;
 use lalrpop_base::lr1_core::coherent::are_coherent;
@@ -9,10 +10,10 @@ use lalrpop_base::repr::grammar::Grammar;
 use lalrpop_construction::construction::lr::Lr;
 use std::alloc::Global;
 use std::test::Fail;
-use test_fixtures::texts::{CROSSED, EMPTY_FIRST, SUMS, grammar};
+use test_fixtures::texts::{CROSSED, EMPTY_FIRST, SUMS};
 
-// The numbers of states and of conflicts. States that are not coherent are an error.
-fn counts(alloc: Global, grammar: &Grammar, start: &str) -> Result<(usize, usize), Fail>
+/// The numbers of states and of conflicts. States that are not coherent are an error.
+pub(crate) fn counts(alloc: Global, grammar: &Grammar, start: &str) -> Result<(usize, usize), Fail>
     requires { IsWellFormed grammar.now }
 {
     let Some(end) = Word::eof(&grammar.terminals) else {
@@ -28,21 +29,18 @@ fn counts(alloc: Global, grammar: &Grammar, start: &str) -> Result<(usize, usize
     }
 }
 
+const STATES: [Case; 4] = [
+    (Ask::Words("S"), SUMS, (16, 0)),
+    (
+        Ask::Words("Ty"),
+        "Ty = \"int\"\nTy = \"bool\"\nTy = Ty \"->\" Ty",
+        (6, 1),
+    ),
+    (Ask::Words("S"), CROSSED, (13, 0)),
+    (Ask::Words("S"), EMPTY_FIRST, (11, 3)),
+];
+
 #[test]
 fn states_with_words(rt: HostRuntime) -> Result<(), Fail> {
-    let alloc = rt.alloc();
-    for (text, start, expected) in [
-        (SUMS, "S", (16, 0)),
-        (
-            "Ty = \"int\"\nTy = \"bool\"\nTy = Ty \"->\" Ty",
-            "Ty",
-            (6, 1),
-        ),
-        (CROSSED, "S", (13, 0)),
-        (EMPTY_FIRST, "S", (11, 3)),
-    ] {
-        let grammar = grammar(alloc, text)?;
-        assert_eq!(rt; counts(alloc, &grammar, start)?, expected, "{text}");
-    }
-    Ok(())
+    expect(rt.alloc(), &STATES)
 }

@@ -2,6 +2,7 @@
 // allocations are refused.
 ghost use Rattle.lalrpop_base.specs.Words.{IsWellFormed};
 
+use crate::asked::{Ask, Case, expect};
 use crate::word_lookahead::Word;
 use grammar_text::symbols::name_of;
 use lalrpop_base::lookahead::nil::Nil;
@@ -17,7 +18,7 @@ use refused_growth::attempts::Attempt;
 use std::alloc::Global;
 use std::test::Fail;
 use test_fixtures::growths::each_growth_refused;
-use test_fixtures::texts::{ONE, grammar, only};
+use test_fixtures::texts::{ONE, only};
 
 // A grammar with two productions of A.
 const TWO: &str = "S = A \"y\"\nA = \"x\"\nA =";
@@ -73,20 +74,22 @@ fn construction_of<'g>(alloc: Global, grammar: &'g Grammar) -> Result<Lr<'g, Tok
     Ok(Lr::new(alloc, grammar, name_of(alloc, "S")?, end)?)
 }
 
-#[test]
-fn items_at_start(rt: HostRuntime) -> Result<(), Fail> {
-    let alloc = rt.alloc();
-    let grammar = grammar(alloc, TWO)?;
-    for is_moved in [false, true] {
-        let mut items = BegunItems {
-            lr: construction_of(alloc, &grammar)?,
-            name: name_of(alloc, "A")?,
-            tokens: only(alloc, "y", &grammar.terminals)?,
-            is_moved,
-        };
-        each_growth_refused(alloc, &mut items)?;
-    }
-    Ok(())
+/// Makes the items of A with the dot at the start while allocations are refused.
+pub(crate) fn items_at_start(
+    alloc: Global,
+    grammar: &Grammar,
+    is_moved: bool,
+) -> Result<(usize, usize), Fail>
+    requires { IsWellFormed grammar.now }
+{
+    let mut items = BegunItems {
+        lr: construction_of(alloc, grammar)?,
+        name: name_of(alloc, "A")?,
+        tokens: only(alloc, "y", &grammar.terminals)?,
+        is_moved,
+    };
+    each_growth_refused(alloc, &mut items)?;
+    Ok((0, 0))
 }
 
 // The items of A with the dot at the start, without lookahead.
@@ -118,20 +121,24 @@ impl Attempt for NilMoves<'_> {
     }
 }
 
-#[test]
-fn moves_without_lookahead(rt: HostRuntime) -> Result<(), Fail> {
-    let alloc = rt.alloc();
-    let grammar = grammar(alloc, TWO)?;
-    let lr = Lr::new(alloc, &grammar, name_of(alloc, "S")?, Nil)?;
+/// Makes the same items without lookahead while allocations are refused.
+pub(crate) fn moves_without_lookahead(
+    alloc: Global,
+    grammar: &Grammar,
+) -> Result<(usize, usize), Fail>
+    requires { IsWellFormed grammar.now }
+{
+    let lr = Lr::new(alloc, grammar, name_of(alloc, "S")?, Nil)?;
     let name = name_of(alloc, "A")?;
-    each_growth_refused(alloc, &mut NilMoves { lr, name })
+    each_growth_refused(alloc, &mut NilMoves { lr, name })?;
+    Ok((0, 0))
 }
 
 // States with words as lookaheads.
 #[derive(Drop)]
-struct WithWords<'g> {
-    grammar: &'g Grammar,
-    start: NonterminalString,
+struct WithWords<'a> {
+    grammar: &'a Grammar,
+    start: &'a NonterminalString,
     count: usize,
 }
 
@@ -168,17 +175,31 @@ impl Attempt for WithWords<'_> {
     }
 }
 
+/// Makes states with words as lookaheads while allocations are refused.
+pub(crate) fn states_refused(
+    alloc: Global,
+    grammar: &Grammar,
+    count: usize,
+) -> Result<(usize, usize), Fail> {
+    let start = name_of(alloc, "S")?;
+    let mut words = WithWords {
+        grammar,
+        start: &start,
+        count,
+    };
+    each_growth_refused(alloc, &mut words)?;
+    Ok((0, 0))
+}
+
+const REFUSALS: [Case; 5] = [
+    (Ask::ItemsAtStart(false), TWO, (0, 0)),
+    (Ask::ItemsAtStart(true), TWO, (0, 0)),
+    (Ask::Moves, TWO, (0, 0)),
+    (Ask::Refused(2), ONE, (0, 0)),
+    (Ask::Refused(4), TWO, (0, 0)),
+];
+
 #[test]
-fn states_with_words(rt: HostRuntime) -> Result<(), Fail> {
-    let alloc = rt.alloc();
-    for (text, count) in [(ONE, 2), (TWO, 4)] {
-        let grammar = grammar(alloc, text)?;
-        let mut words = WithWords {
-            grammar: &grammar,
-            start: name_of(alloc, "S")?,
-            count,
-        };
-        each_growth_refused(alloc, &mut words)?;
-    }
-    Ok(())
+fn constructions(rt: HostRuntime) -> Result<(), Fail> {
+    expect(rt.alloc(), &REFUSALS)
 }

@@ -2,4 +2,4 @@ use Rattle.lalrpop_construction.proofs.theory.construction.Lookaheads.{nothing_f
 use Rattle.lalrpop_construction_tests.proofs.allocation_failures.constructions.moves_without_lookahead.Goals as goal
 
 pub new-requires-clause-fits : goal.new-requires-clause-fits
-new-requires-clause-fits c = nothing_fits c.in_ok-grammar.grammar.terminals
+new-requires-clause-fits c = nothing_fits c.args.grammar.now.terminals
