@@ -1,24 +1,47 @@
 // The ways from nonterminals back to themselves, worked out by hand.
+ghost use Rattle.lalrpop_base.specs.Words.{IsWellFormed};
+
+use super::asked::{Ask, expect};
 use grammar_diagnostics::cycle::unit_cycle;
-use grammar_text::grammar::read;
 use lalrpop_base::first::FirstSets;
+use lalrpop_base::memory::OutOfMemory;
+use lalrpop_base::repr::NonterminalString;
+use lalrpop_base::repr::grammar::Grammar;
 use std::alloc::Global;
 use std::test::Fail;
 
-// The way back of each nonterminal of a text that has one of at most so many steps.
-fn ways_back(alloc: Global, text: &str, most: usize) -> Result<String, Fail> {
-    let grammar = read(alloc, text)?;
-    let sets = FirstSets::new(alloc, &grammar)?;
+/// The way back of each nonterminal that has one of at most so many steps.
+pub fn ways_back(alloc: Global, grammar: &Grammar, most: usize) -> Result<String, OutOfMemory>
+    requires { IsWellFormed grammar.now }
+{
     let mut all = String::new(alloc);
     for (name, _entry) in grammar.nonterminals.iter() {
-        if let Some(path) = unit_cycle(alloc, &grammar, &sets, name, most)? {
-            for step in path.iter() {
-                write!(all, "{step} ")?;
-            }
-            write!(all, "; ")?;
+        if let Some(way) = way_back(alloc, grammar, name, most)? {
+            write!(all, "{way}; ")?;
         }
     }
     Ok(all)
+}
+
+/// The names of the way from a nonterminal back to itself, each with a space after it. `None` if
+/// there is no way of so many steps.
+pub fn way_back(
+    alloc: Global,
+    grammar: &Grammar,
+    name: &NonterminalString,
+    most: usize,
+) -> Result<Option<String>, OutOfMemory>
+    requires { IsWellFormed grammar.now }
+{
+    let sets = FirstSets::new(alloc, grammar)?;
+    let Some(path) = unit_cycle(alloc, grammar, &sets, name, most)? else {
+        return Ok(None);
+    };
+    let mut way = String::new(alloc);
+    for step in path.iter() {
+        write!(way, "{step} ")?;
+    }
+    Ok(Some(way))
 }
 
 // Each text with the ways back that are expected: of one step, of two, the shorter of two, of
@@ -37,29 +60,17 @@ const WAYS_BACK: [(&str, &str); 8] = [
     ("", ""),
 ];
 
-#[test]
-fn ways_back_to_nonterminals(rt: HostRuntime) -> Result<(), Fail> {
-    let alloc = rt.alloc();
-    for (text, expected) in WAYS_BACK {
-        assert_eq!(rt; ways_back(alloc, text, 9)?.as_str(), expected);
-    }
-    Ok(())
-}
-
 // A ring of three nonterminals, of which one leads to itself, too.
 const RING: &str = "A = B\nB = C\nC = A\nC = C";
 
 // Ways of more steps than are allowed are left out.
 #[test]
-fn short_ways(rt: HostRuntime) -> Result<(), Fail> {
+fn cycles(rt: HostRuntime) -> Result<(), Fail> {
     let alloc = rt.alloc();
-    for (most, expected) in [
-        (0, ""),
-        (1, "C C ; "),
-        (2, "C C ; "),
-        (3, "A B C A ; B C A B ; C C ; "),
-    ] {
-        assert_eq!(rt; ways_back(alloc, RING, most)?.as_str(), expected);
-    }
-    Ok(())
+    expect(alloc, Ask::WaysBack(9), "S", &WAYS_BACK)?;
+    expect(alloc, Ask::WaysBack(0), "S", &[(RING, "")])?;
+    expect(alloc, Ask::WaysBack(1), "S", &[(RING, "C C ; ")])?;
+    expect(alloc, Ask::WaysBack(2), "S", &[(RING, "C C ; ")])?;
+    let all = [(RING, "A B C A ; B C A B ; C C ; ")];
+    expect(alloc, Ask::WaysBack(3), "S", &all)
 }

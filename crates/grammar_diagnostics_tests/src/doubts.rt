@@ -1,24 +1,7 @@
 // Warnings of small grammars, worked out by hand.
-use grammar_diagnostics::messages::message;
-use grammar_diagnostics::places::line_at;
-use grammar_diagnostics::warnings::warnings;
-use grammar_text::grammar::read;
-use grammar_text::symbols::name_of;
-use std::alloc::Global;
+use super::asked::{Ask, expect};
+use super::lines::Doubt;
 use std::test::Fail;
-
-// The line and the message of each warning of a text with the start symbol `S`.
-fn said(alloc: Global, text: &str) -> Result<String, Fail> {
-    let grammar = read(alloc, text)?;
-    let start = name_of(alloc, "S")?;
-    let mut all = String::new(alloc);
-    for warning in &warnings(alloc, &grammar, &start)? {
-        let row = line_at(text, warning.span().0);
-        let words = message(alloc, text, &start, None, warning)?;
-        write!(all, "{row}: {words}\n")?;
-    }
-    Ok(all)
-}
 
 // Each text with the messages that are expected: of doubts that hold, and then of grammars in which
 // they do not.
@@ -68,9 +51,5 @@ const DOUBTS: [(&str, &str); 17] = [
 
 #[test]
 fn doubts_that_hold_and_do_not_hold(rt: HostRuntime) -> Result<(), Fail> {
-    let alloc = rt.alloc();
-    for (text, expected) in DOUBTS {
-        assert_eq!(rt; said(alloc, text)?.as_str(), expected);
-    }
-    Ok(())
+    expect(rt.alloc(), Ask::Doubts(Doubt::Said), "S", &DOUBTS)
 }

@@ -1,5 +1,6 @@
 // Faulty lines, with the messages that are expected of them.
-use grammar_diagnostics::text_errors::{TextError, text_errors};
+use super::asked::is_equal;
+use super::lines::{Fault, faults_of};
 use std::alloc::Global;
 use std::test::Fail;
 
@@ -187,69 +188,56 @@ const FAULTS: [(&str, &str); 45] = [
     ),
 ];
 
-// The line, the column and the message of an error.
-fn shown(alloc: Global, error: &TextError<'_>) -> Result<String, Fail> {
-    Ok(format!(in alloc; "{}:{}: {error}", error.line, error.column)?)
+// Fails unless a text with a faulty second line has one error, with the expected message.
+fn is_second_fault(alloc: Global, line: &str, expected: &str) -> Result<(), Fail> {
+    let text = format!(in alloc; "S = A \"x\"\n{line}\r\nA =\n")?;
+    let expected = format!(in alloc; "{expected}\n")?;
+    let faults = faults_of(alloc, Fault::Message, text.as_str())?;
+    is_equal(faults.as_str(), expected.as_str())
 }
 
-// The second line alone is faulty.
-#[test]
-fn each_fault_has_its_message(rt: HostRuntime) -> Result<(), Fail> {
-    let alloc = rt.alloc();
-    for (line, expected) in FAULTS {
-        let text = format!(in alloc; "S = A \"x\"\n{line}\r\nA =\n")?;
-        let errors = text_errors(alloc, text.as_str())?;
-        assert_eq!(rt; errors.len(), 1);
-        for error in &errors {
-            assert_eq!(rt; shown(alloc, error)?.as_str(), expected);
-        }
-    }
-    Ok(())
-}
-
-// Each faulty line is listed. The bytes of the second one are after a character of two bytes.
-#[test]
-fn all_faults_of_a_text(rt: HostRuntime) -> Result<(), Fail> {
-    let alloc = rt.alloc();
-    let text = "S = | \"a\"\nS =\n\n S = \"\u{e9}\" ;\ninline S\nS";
-    let errors = text_errors(alloc, text)?;
-    let mut places = String::new(alloc);
-    for error in &errors {
-        let span = error.span;
-        write!(
-            places,
-            "{} {} {}-{}, ",
-            error.line, error.column, span.0, span.1
-        )?;
-    }
-    assert_eq!(rt; places.as_str(), "1 5 4-5, 4 10 25-26, 6 1 36-37, ");
-    Ok(())
-}
-
-#[test]
-fn faults_without_their_hints(rt: HostRuntime) -> Result<(), Fail> {
-    let alloc = rt.alloc();
-    for error in &text_errors(alloc, "S = | \"a\"")? {
-        assert_eq!(rt;
-            error.fault_text(alloc)?.as_str(),
-            "`|` is neither a name nor a literal"
-        );
-        let hint = "write the alternative as a production on a line of its own";
-        assert_eq!(rt; error.hint().text(), hint);
-    }
-    Ok(())
-}
-
-#[test]
-fn texts_without_faults(rt: HostRuntime) -> Result<(), Fail> {
-    let alloc = rt.alloc();
-    for text in [
-        "",
-        "\n\n",
-        "S =\r\n",
+// What is written of the errors of a text, and the expected text. Each faulty line is listed, and the
+// bytes of the second one are after a character of two bytes. Then come a fault with its hint, and
+// texts without faults.
+const WRITTEN: [(Fault, &str, &str); 6] = [
+    (
+        Fault::Bytes,
+        "S = | \"a\"\nS =\n\n S = \"\u{e9}\" ;\ninline S\nS",
+        "1 5 4-5, 4 10 25-26, 6 1 36-37, ",
+    ),
+    (
+        Fault::Hint,
+        "S = | \"a\"",
+        "`|` is neither a name nor a literal | write the alternative as a production on a line of its own\n",
+    ),
+    (Fault::Bytes, "", ""),
+    (Fault::Bytes, "\n\n", ""),
+    (Fault::Bytes, "S =\r\n", ""),
+    (
+        Fault::Bytes,
         " inline\tS \nS = \"|\" A\nA = \"\u{feff}\"",
-    ] {
-        assert_eq!(rt; text_errors(alloc, text)?.len(), 0);
+        "",
+    ),
+];
+
+// Fails unless each faulty line, which is the second one of a text, has its message.
+fn all_second_faults(alloc: Global, faults: &[(&str, &str)]) -> Result<(), Fail> {
+    for (line, expected) in faults {
+        is_second_fault(alloc, line, expected)?;
     }
     Ok(())
+}
+
+// Fails unless what is written of each text is the expected text.
+fn all_written(alloc: Global, written: &[(Fault, &str, &str)]) -> Result<(), Fail> {
+    for (fault, text, expected) in written {
+        is_equal(faults_of(alloc, *fault, text)?.as_str(), expected)?;
+    }
+    Ok(())
+}
+
+#[test]
+fn faults(rt: HostRuntime) -> Result<(), Fail> {
+    all_second_faults(rt.alloc(), &FAULTS)?;
+    all_written(rt.alloc(), &WRITTEN)
 }

@@ -4,6 +4,8 @@
 #![tactic(auto)]
 
 #[cfg(test)]
+mod asked;
+#[cfg(test)]
 mod cycles;
 #[cfg(test)]
 mod doubts;
@@ -11,5 +13,7 @@ mod doubts;
 mod faults;
 #[cfg(test)]
 mod growths;
+#[cfg(test)]
+mod lines;
 #[cfg(test)]
 mod places;

@@ -1,31 +1,7 @@
 // The places of warnings, and their ways out, worked out by hand.
-use grammar_diagnostics::messages::{doubt_text, way_out};
-use grammar_diagnostics::nearest::suggestion;
-use grammar_diagnostics::text_lines::TextLines;
-use grammar_diagnostics::warning_places::{name_place, warning_place};
-use grammar_diagnostics::warnings::warnings;
-use grammar_text::grammar::read;
-use grammar_text::symbols::name_of;
-use std::alloc::Global;
+use super::asked::{Ask, expect};
+use super::lines::Doubt;
 use std::test::Fail;
-
-// The line, the column and the bytes of each warning of a text with the start symbol `S`.
-fn places(alloc: Global, text: &str) -> Result<String, Fail> {
-    let grammar = read(alloc, text)?;
-    let start = name_of(alloc, "S")?;
-    let lines = TextLines::new(alloc, text)?;
-    let mut all = String::new(alloc);
-    for warning in &warnings(alloc, &grammar, &start)? {
-        let place = warning_place(alloc, &lines, &start, warning)?;
-        let span = place.span;
-        write!(
-            all,
-            "{}:{} {}-{}, ",
-            place.line, place.column, span.0, span.1
-        )?;
-    }
-    Ok(all)
-}
 
 // Each text with the places that are expected: of undefined nonterminals, of left sides, of marks,
 // of right sides, and of the start symbol.
@@ -47,63 +23,15 @@ const PLACES: [(&str, &str); 15] = [
     ("S = \"s\" S\nS = \"t\"", "1:9 8-9, "),
 ];
 
-#[test]
-fn places_of_warnings(rt: HostRuntime) -> Result<(), Fail> {
-    let alloc = rt.alloc();
-    for (text, expected) in PLACES {
-        assert_eq!(rt; places(alloc, text)?.as_str(), expected);
-    }
-    Ok(())
-}
-
-// The places of the left sides of all productions of a text.
-fn left_sides(alloc: Global, text: &str) -> Result<String, Fail> {
-    let grammar = read(alloc, text)?;
-    let lines = TextLines::new(alloc, text)?;
-    let mut all = String::new(alloc);
-    for (name, entry) in grammar.nonterminals.iter() {
-        for production in &entry.productions {
-            let place = name_place(alloc, &lines, name, production.span)?;
-            let span = place.span;
-            write!(
-                all,
-                "{}:{} {}-{}, ",
-                place.line, place.column, span.0, span.1
-            )?;
-        }
-    }
-    Ok(all)
-}
-
-#[test]
-fn places_of_left_sides(rt: HostRuntime) -> Result<(), Fail> {
-    let alloc = rt.alloc();
-    for (text, expected) in [
-        (
-            "S = A\n\r\n  A = \"\u{e9}\"\r\nS = S\n",
-            "3:3 10-11, 1:1 0-1, 4:1 20-21, ",
-        ),
-        ("\n\n\tS =", "3:2 3-4, "),
-        ("", ""),
-    ] {
-        assert_eq!(rt; left_sides(alloc, text)?.as_str(), expected);
-    }
-    Ok(())
-}
-
-// What is doubtful and the way out of each warning of a text with a start symbol.
-fn ways_out(alloc: Global, text: &str, start: &str) -> Result<String, Fail> {
-    let grammar = read(alloc, text)?;
-    let start = name_of(alloc, start)?;
-    let mut all = String::new(alloc);
-    for warning in &warnings(alloc, &grammar, &start)? {
-        let near = suggestion(alloc, &grammar, &start, warning)?;
-        let doubt = doubt_text(alloc, text, &start, warning)?;
-        let hint = way_out(alloc, near, warning)?;
-        write!(all, "{doubt} | {hint}\n")?;
-    }
-    Ok(all)
-}
+// Each text with the places of the left sides of all productions.
+const LEFT_SIDES: [(&str, &str); 3] = [
+    (
+        "S = A\n\r\n  A = \"\u{e9}\"\r\nS = S\n",
+        "3:3 10-11, 1:1 0-1, 4:1 20-21, ",
+    ),
+    ("\n\n\tS =", "3:2 3-4, "),
+    ("", ""),
+];
 
 // Each text with what is expected: of one edit, of two in a name of six bytes, and of three in a
 // name of five; a name of one byte; the first of two names, the nearer of two, and a name without a
@@ -139,38 +67,30 @@ const WAYS_OUT: [(&str, &str); 7] = [
     ),
 ];
 
-#[test]
-fn names_that_may_be_meant(rt: HostRuntime) -> Result<(), Fail> {
-    let alloc = rt.alloc();
-    for (text, expected) in WAYS_OUT {
-        assert_eq!(rt; ways_out(alloc, text, "S")?.as_str(), expected);
-    }
-    Ok(())
-}
-
 // Start symbols without a production: a name is near, none is, and the name is on a right side, too.
 // No nonterminal is said to be unreachable.
+const NEAR: [(&str, &str); 2] = [
+    (
+        "Sum = \"s\"\nTerm = \"t\"",
+        "`Sun` has no production | perhaps `Sum` is meant\n",
+    ),
+    (
+        "Sum = Sun\nSum =",
+        "`Sun` has no production | perhaps `Sum` is meant\n`Sun` has no production | perhaps `Sum` is meant\n`Sun` is on a right side | add a start symbol that is on none\n",
+    ),
+];
+
+const FAR: [(&str, &str); 1] = [(
+    "Sum = \"s\"",
+    "`Term` has no production | name another start symbol\n",
+)];
+
 #[test]
-fn start_symbols_that_may_be_meant(rt: HostRuntime) -> Result<(), Fail> {
+fn places_and_names(rt: HostRuntime) -> Result<(), Fail> {
     let alloc = rt.alloc();
-    for (text, start, expected) in [
-        (
-            "Sum = \"s\"\nTerm = \"t\"",
-            "Sun",
-            "`Sun` has no production | perhaps `Sum` is meant\n",
-        ),
-        (
-            "Sum = \"s\"",
-            "Term",
-            "`Term` has no production | name another start symbol\n",
-        ),
-        (
-            "Sum = Sun\nSum =",
-            "Sun",
-            "`Sun` has no production | perhaps `Sum` is meant\n`Sun` has no production | perhaps `Sum` is meant\n`Sun` is on a right side | add a start symbol that is on none\n",
-        ),
-    ] {
-        assert_eq!(rt; ways_out(alloc, text, start)?.as_str(), expected);
-    }
-    Ok(())
+    expect(alloc, Ask::Doubts(Doubt::Placed), "S", &PLACES)?;
+    expect(alloc, Ask::LeftSides, "S", &LEFT_SIDES)?;
+    expect(alloc, Ask::Doubts(Doubt::WayOut), "S", &WAYS_OUT)?;
+    expect(alloc, Ask::Doubts(Doubt::WayOut), "Sun", &NEAR)?;
+    expect(alloc, Ask::Doubts(Doubt::WayOut), "Term", &FAR)
 }
