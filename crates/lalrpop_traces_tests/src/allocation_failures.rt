@@ -1,4 +1,5 @@
 // Graphs of traces, and walks over them, while allocations are refused.
+use crate::asked::{Ask, Case, expect};
 use crate::traces::one_edge;
 use grammar_text::symbols::name_of;
 use lalrpop_base::first::FirstSets;
@@ -8,13 +9,13 @@ use lalrpop_base::memory::OutOfMemory;
 use lalrpop_base::repr::Production;
 use lalrpop_base::repr::grammar::{Grammar, is_well_formed};
 use lalrpop_traces::trace::{
-    NodeIndex, PathEnumerator, TraceGraph, TraceGraphEdge, TraceGraphNode,
+    Example, NodeIndex, PathEnumerator, TraceGraph, TraceGraphEdge, TraceGraphNode,
 };
 use refused_growth::attempts::Attempt;
 use std::alloc::Global;
 use std::test::Fail;
 use test_fixtures::growths::each_growth_refused;
-use test_fixtures::texts::{ONE, first_production, grammar, only};
+use test_fixtures::texts::{ONE, first_production, only};
 
 // A graph without edges, to which an edge is added. After an allocation failure it can have new
 // nodes, but not the edge.
@@ -40,13 +41,12 @@ impl Attempt for Edge<'_> {
     }
 }
 
-#[test]
-fn an_edge(rt: HostRuntime) -> Result<(), Fail> {
-    let alloc = rt.alloc();
-    let grammar = grammar(alloc, "S = \"x\"")?;
-    let production = first_production(alloc, &grammar, "S")?;
+/// Adds an edge while allocations are refused.
+pub(crate) fn first_edge(alloc: Global, grammar: &Grammar) -> Result<bool, Fail> {
+    let production = first_production(alloc, grammar, "S")?;
     let graph = TraceGraph::new(alloc);
-    each_growth_refused(alloc, &mut Edge { graph, production })
+    each_growth_refused(alloc, &mut Edge { graph, production })?;
+    Ok(true)
 }
 
 // A graph of one edge and `count` nodes, to which an item with the dot at the end is added.
@@ -86,22 +86,23 @@ fn add_nodes(
     Ok(last)
 }
 
-// A map of fifteen nodes is full. The number of the new node shows that no other node was added.
-#[test]
-fn a_new_node(rt: HostRuntime) -> Result<(), Fail> {
-    let alloc = rt.alloc();
-    let grammar = grammar(alloc, ONE)?;
-    let mut graph = one_edge(alloc, &grammar)?;
-    let names = [
-        "A", "B", "C", "D", "E", "F", "G", "H", "I", "J", "K", "L", "M",
-    ];
-    assert_eq!(rt; add_nodes(alloc, &mut graph, &names)?, Some(NodeIndex(14)));
+const NAMES: [&str; 13] = [
+    "A", "B", "C", "D", "E", "F", "G", "H", "I", "J", "K", "L", "M",
+];
+
+/// Adds a node to a graph of fifteen while allocations are refused.
+pub(crate) fn new_node(alloc: Global, grammar: &Grammar) -> Result<bool, Fail> {
+    let mut graph = one_edge(alloc, grammar)?;
+    if add_nodes(alloc, &mut graph, &NAMES)? != Some(NodeIndex(14)) {
+        return Ok(false);
+    }
     let mut node = NewNode {
         graph,
-        production: first_production(alloc, &grammar, "S")?,
+        production: first_production(alloc, grammar, "S")?,
         count: 15,
     };
-    each_growth_refused(alloc, &mut node)
+    each_growth_refused(alloc, &mut node)?;
+    Ok(true)
 }
 
 // A graph with edges, to which an edge between two of its nodes is added.
@@ -145,21 +146,17 @@ impl Attempt for NewEdge<'_> {
     }
 }
 
-// After all turns the graph has no other node: the next node has the number 4, after the four
-// names.
-#[test]
-fn a_new_edge(rt: HostRuntime) -> Result<(), Fail> {
-    let alloc = rt.alloc();
+/// Adds an edge between nodes while allocations are refused. After all turns the graph has no other
+/// node: the next node has the number 4, after the four names.
+pub(crate) fn new_edge(alloc: Global) -> Result<bool, Fail> {
     let mut graph = TraceGraph::new(alloc);
     add_names(alloc, &mut graph, &["B", "C", "D"])?;
-    assert_eq!(rt; graph.edges().len(), 3);
+    if graph.edges().len() != 3 {
+        return Ok(false);
+    }
     let mut edge = NewEdge { graph, count: 3 };
     each_growth_refused(alloc, &mut edge)?;
-    assert_eq!(rt;
-        add_nodes(alloc, &mut edge.graph, &["E"])?,
-        Some(NodeIndex(4))
-    );
-    Ok(())
+    Ok(add_nodes(alloc, &mut edge.graph, &["E"])? == Some(NodeIndex(4)))
 }
 
 // The examples of a graph with one path.
@@ -218,17 +215,33 @@ fn add_path<'g>(
     Ok(())
 }
 
-#[test]
-fn an_example(rt: HostRuntime) -> Result<(), Fail> {
-    let alloc = rt.alloc();
-    let grammar = grammar(alloc, "S = A \"y\"\nA = \"x\"")?;
+/// Lists the examples of one path while allocations are refused.
+pub(crate) fn example(alloc: Global, grammar: &Grammar) -> Result<bool, Fail> {
     let mut graph = TraceGraph::new(alloc);
-    add_path(alloc, &grammar, &mut graph, "S", "A")?;
+    add_path(alloc, grammar, &mut graph, "S", "A")?;
     let mut examples = Examples {
         graph: &graph,
-        production: first_production(alloc, &grammar, "A")?,
+        production: first_production(alloc, grammar, "A")?,
     };
-    each_growth_refused(alloc, &mut examples)
+    each_growth_refused(alloc, &mut examples)?;
+    Ok(true)
+}
+
+// What a walk returns: an example, an allocation failure, or no more.
+#[derive(Clone, Copy)]
+enum Step {
+    Example,
+    Failure,
+    End,
+}
+
+// The kind of what a walk returned, which is dropped.
+fn step_of(next: Option<Result<Example, OutOfMemory>>) -> Step {
+    match next {
+        Some(Ok(_)) => Step::Example,
+        Some(Err(_)) => Step::Failure,
+        None => Step::End,
+    }
 }
 
 // The examples of a graph with two paths, of which only one can go on with "y".
@@ -256,33 +269,30 @@ impl Attempt for Meeting<'_, '_> {
         let Ok(mut walk) = self.graph.lr1_examples(alloc, &sets, &end) else {
             return None;
         };
-        let first = walk.next();
-        let second = walk.next();
+        let first = step_of(walk.next());
+        let second = step_of(walk.next());
         let has_ended = walk.next().is_none() && walk.next().is_none();
         match (first, second) {
-            (Some(Ok(_)), None) => Some(has_ended),
-            (Some(Ok(_)), Some(Err(_))) if has_ended => None,
-            (Some(Err(_)), None) if has_ended => None,
+            (Step::Example, Step::End) => Some(has_ended),
+            (Step::Example, Step::Failure) if has_ended => None,
+            (Step::Failure, Step::End) if has_ended => None,
             _ => Some(false),
         }
     }
 }
 
-// An allocation failure is reported once, and then the examples end, also if examples are passed
-// over.
-#[test]
-fn an_example_that_goes_on(rt: HostRuntime) -> Result<(), Fail> {
-    let alloc = rt.alloc();
-    let grammar = grammar(alloc, "S = A \"y\"\nT = A \"z\"\nA = \"x\"")?;
+/// Lists the examples of two paths, of which one can go on, while allocations are refused.
+pub(crate) fn two_paths(alloc: Global, grammar: &Grammar) -> Result<bool, Fail> {
     let mut graph = TraceGraph::new(alloc);
-    add_path(alloc, &grammar, &mut graph, "S", "A")?;
-    add_path(alloc, &grammar, &mut graph, "T", "A")?;
+    add_path(alloc, grammar, &mut graph, "S", "A")?;
+    add_path(alloc, grammar, &mut graph, "T", "A")?;
     let mut meeting = Meeting {
-        grammar: &grammar,
+        grammar,
         graph: &graph,
-        production: first_production(alloc, &grammar, "A")?,
+        production: first_production(alloc, grammar, "A")?,
     };
-    each_growth_refused(alloc, &mut meeting)
+    each_growth_refused(alloc, &mut meeting)?;
+    Ok(true)
 }
 
 // A walk that goes on to a path for which its room is too small.
@@ -319,19 +329,34 @@ fn add_names(alloc: Global, graph: &mut TraceGraph, names: &[&str]) -> Result<()
     Ok(())
 }
 
-// The newest edges are taken first. So the path from S over A is first, and the path from T over
-// all names is next.
-#[test]
-fn a_longer_path(rt: HostRuntime) -> Result<(), Fail> {
-    let alloc = rt.alloc();
-    let grammar = grammar(alloc, "S = A\nT = G\nA = \"x\"")?;
+/// Walks on to a longer path while allocations are refused.
+pub(crate) fn longer_path(alloc: Global, grammar: &Grammar) -> Result<bool, Fail> {
     let mut graph = TraceGraph::new(alloc);
     add_names(alloc, &mut graph, &["B", "C", "D", "E", "F", "G"])?;
-    add_path(alloc, &grammar, &mut graph, "T", "G")?;
-    add_path(alloc, &grammar, &mut graph, "S", "A")?;
+    add_path(alloc, grammar, &mut graph, "T", "G")?;
+    add_path(alloc, grammar, &mut graph, "S", "A")?;
     let mut longer = Longer {
         graph: &graph,
-        production: first_production(alloc, &grammar, "A")?,
+        production: first_production(alloc, grammar, "A")?,
     };
-    each_growth_refused(alloc, &mut longer)
+    each_growth_refused(alloc, &mut longer)?;
+    Ok(true)
+}
+
+// A map of fifteen nodes is full. The number of the new node shows that no other node was added. An
+// allocation failure is reported once, and then the examples end, also if examples are passed over.
+// The newest edges are taken first. So in the last case the path from S over A is first, and the path
+// from T over all names is next.
+const REFUSALS: [Case; 6] = [
+    (Ask::Edge, ONE),
+    (Ask::NewNode, ONE),
+    (Ask::NewEdge, ONE),
+    (Ask::Example, "S = A \"y\"\nA = \"x\""),
+    (Ask::Meeting, "S = A \"y\"\nT = A \"z\"\nA = \"x\""),
+    (Ask::LongerPath, "S = A\nT = G\nA = \"x\""),
+];
+
+#[test]
+fn allocation_failures(rt: HostRuntime) -> Result<(), Fail> {
+    expect(rt.alloc(), &REFUSALS)
 }

@@ -5,4 +5,6 @@
 #[cfg(test)]
 mod allocation_failures;
 #[cfg(test)]
+mod asked;
+#[cfg(test)]
 mod traces;

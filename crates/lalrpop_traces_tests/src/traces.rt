@@ -1,12 +1,15 @@
 // The nodes and graphs of traces: how nodes are compared, and which terminals a graph has.
+use crate::asked::{Ask, Case, expect};
 use grammar_text::symbols::{literals, name_of};
 use lalrpop_base::lr1_core::item::Item;
+use lalrpop_base::memory::OutOfMemory;
+use lalrpop_base::repr::Production;
 use lalrpop_base::repr::grammar::Grammar;
 use lalrpop_base::repr::terminals::TerminalSet;
 use lalrpop_traces::trace::{TraceGraph, TraceGraphNode};
 use std::alloc::Global;
 use std::test::Fail;
-use test_fixtures::texts::{ONE, first_production, grammar};
+use test_fixtures::texts::{ONE, first_production};
 
 /// The graph of one edge, from S to its first production with the dot at the start.
 pub(crate) fn one_edge<'g>(alloc: Global, grammar: &'g Grammar) -> Result<TraceGraph<'g>, Fail> {
@@ -17,45 +20,78 @@ pub(crate) fn one_edge<'g>(alloc: Global, grammar: &'g Grammar) -> Result<TraceG
     Ok(graph)
 }
 
-#[test]
-fn terminals_of_a_trace_graph(rt: HostRuntime) -> Result<(), Fail> {
-    let alloc = rt.alloc();
-    let known = TerminalSet::new(alloc, literals(alloc, &["x"])?)?;
-    let others = TerminalSet::new(alloc, literals(alloc, &["y"])?)?;
-    let grammar = grammar(alloc, ONE)?;
-    let graph = one_edge(alloc, &grammar)?;
-    assert!(rt; graph.is_known(&known));
-    assert!(rt; !graph.is_known(&others));
-    Ok(())
+// Whether the terminals of a graph are all in the set of one literal.
+fn is_known(alloc: Global, graph: &TraceGraph<'_>, text: &str) -> Result<bool, Fail> {
+    let terminals = TerminalSet::new(alloc, literals(alloc, &[text])?)?;
+    Ok(graph.is_known(&terminals))
+}
+
+/// Whether the terminals of the graph of one edge are all in the set of `x`, and not in that of `y`.
+pub(crate) fn is_known_by_x(alloc: Global, grammar: &Grammar) -> Result<bool, Fail> {
+    let graph = one_edge(alloc, grammar)?;
+    Ok(is_known(alloc, &graph, "x")? && !is_known(alloc, &graph, "y")?)
+}
+
+// The node of a number, over a production with two symbols: two nonterminals, and the item with the
+// dot after one symbol and after both.
+fn node<'g>(
+    alloc: Global,
+    production: &'g Production,
+    number: usize,
+) -> Result<TraceGraphNode<'g>, Fail> {
+    if production.symbols.len() != 2 {
+        return Err(Fail::from("not two symbols"));
+    }
+    match number {
+        0 => Ok(TraceGraphNode::from(name_of(alloc, "A")?)),
+        1 => Ok(TraceGraphNode::from(name_of(alloc, "B")?)),
+        2 => Ok(TraceGraphNode::from(Item::lr0(production, 1))),
+        _ => Ok(TraceGraphNode::from(Item::lr0(production, 2))),
+    }
+}
+
+// Whether a node comes before that of the next number, and both are equal to their copies.
+fn is_before_next(alloc: Global, production: &Production, number: usize) -> Result<bool, Fail> {
+    let first = node(alloc, production, number)?;
+    let second = node(alloc, production, number.saturating_add(1))?;
+    Ok(first < second && is_copied(alloc, &first)? && is_copied(alloc, &second)?)
+}
+
+// Whether the node of an item is equal to that of a reference to it.
+fn is_borrowed(production: &Production) -> bool {
+    if production.symbols.len() != 2 {
+        return false;
+    }
+    let item = Item::lr0(production, 1);
+    let borrowed = TraceGraphNode::from(&item);
+    TraceGraphNode::from(item) == borrowed
+}
+
+/// Whether a nonterminal comes before a later one, both before an item, and that before one with a
+/// later dot.
+pub(crate) fn are_compared(alloc: Global, grammar: &Grammar) -> Result<bool, Fail> {
+    let production = first_production(alloc, grammar, "A")?;
+    for number in 0..3 {
+        if !is_before_next(alloc, production, number)? {
+            return Ok(false);
+        }
+    }
+    Ok(is_borrowed(production))
+}
+
+// Whether a node is equal to its copy.
+fn is_copied(alloc: Global, node: &TraceGraphNode<'_>) -> Result<bool, OutOfMemory> {
+    Ok(*node == node.clone(alloc)?)
 }
 
 // A terminal in the suffix of an edge must be known, too.
-#[test]
-fn terminals_of_a_suffix(rt: HostRuntime) -> Result<(), Fail> {
-    let alloc = rt.alloc();
-    let known = TerminalSet::new(alloc, literals(alloc, &["x"])?)?;
-    let others = TerminalSet::new(alloc, literals(alloc, &["y"])?)?;
-    let grammar = grammar(alloc, "S = A \"x\"\nA = \"y\"")?;
-    let graph = one_edge(alloc, &grammar)?;
-    assert!(rt; graph.is_known(&known));
-    assert!(rt; !graph.is_known(&others));
-    Ok(())
-}
+const TRACES: [Case; 3] = [
+    (Ask::Known, ONE),
+    (Ask::Known, "S = A \"x\"\nA = \"y\""),
+    (Ask::Compared, "A = B \"x\""),
+];
 
-// A nonterminal comes before an item.
 #[test]
-fn nodes_are_compared(rt: HostRuntime) -> Result<(), Fail> {
-    let alloc = rt.alloc();
-    let grammar = grammar(alloc, "A = B \"x\"")?;
-    let production = first_production(alloc, &grammar, "A")?;
-    assert_eq!(rt; production.symbols.len(), 2);
-    let item = Item::lr0(production, 1);
-    let name = TraceGraphNode::from(name_of(alloc, "B")?);
-    let borrowed = TraceGraphNode::from(&item);
-    let node = TraceGraphNode::from(item);
-    assert!(rt; node == borrowed && node == node.clone(alloc)?);
-    assert!(rt; name < node && name == name.clone(alloc)?);
-    assert!(rt; TraceGraphNode::from(name_of(alloc, "A")?) < name);
-    assert!(rt; node < TraceGraphNode::from(Item::lr0(production, 2)));
-    Ok(())
+fn traces(rt: HostRuntime) -> Result<(), Fail> {
+    expect(rt.alloc(), &TRACES)
 }
