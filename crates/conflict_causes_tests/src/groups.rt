@@ -10,7 +10,6 @@ use lalrpop_construction::construction::canonical::build_canonical_states;
 use lalrpop_construction::construction::lr::Lr;
 use std::alloc::Global;
 use std::test::Fail;
-use test_fixtures::texts::grammar;
 
 /// Sums and products without precedence. Each state of an expression has a copy for parentheses.
 pub(crate) const CALCULATOR: &str =
@@ -30,10 +29,11 @@ pub(crate) fn conflicts<'g>(
     }
 }
 
-// The numbers of the conflicts of each cause, in lines.
-fn grouped(alloc: Global, text: &str) -> Result<String, Fail> {
-    let grammar = grammar(alloc, text)?;
-    let error = conflicts(alloc, &grammar)?;
+/// The numbers of the conflicts of each cause, in lines.
+pub(crate) fn grouped(
+    alloc: Global,
+    error: &Lr1TableConstructionError<'_>,
+) -> Result<String, Fail> {
     let mut lines = String::new(alloc);
     for cause in &causes(alloc, &error.states, &error.conflicts)? {
         for number in cause.conflicts() {
@@ -42,15 +42,4 @@ fn grouped(alloc: Global, text: &str) -> Result<String, Fail> {
         lines.push_str("\n")?;
     }
     Ok(lines)
-}
-
-// The conflicts are in the states 9, 10, 15 and 16, on `"*"` and then on `"+"` in each.
-#[test]
-fn calculator(rt: HostRuntime) -> Result<(), Fail> {
-    let alloc = rt.alloc();
-    assert_eq!(rt;
-        grouped(alloc, CALCULATOR)?.as_str(),
-        " 0 4\n 1 5\n 2 6\n 3 7\n"
-    );
-    Ok(())
 }

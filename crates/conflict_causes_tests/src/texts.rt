@@ -1,23 +1,9 @@
 // The texts of causes. The expected ones are worked out by hand.
-ghost use Rattle.lalrpop_base.specs.Words.{IsWellFormed};
-
-use crate::groups::{CALCULATOR, conflicts};
-use conflict_causes::text::conflicts_text;
-use std::alloc::Global;
+use crate::asked::{Ask, Case, expect};
+use crate::groups::CALCULATOR;
 use std::test::Fail;
-use test_fixtures::texts::grammar;
 
-// The text of the causes of a grammar, with searches of so many steps.
-fn shown(alloc: Global, text: &str, steps: usize) -> Result<String, Fail> {
-    let grammar = grammar(alloc, text)?;
-    let error = conflicts(alloc, &grammar)?;
-    Ok(conflicts_text(alloc, &grammar, &error.states, &error.conflicts, steps)?)
-}
-
-#[test]
-fn calculator(rt: HostRuntime) -> Result<(), Fail> {
-    let alloc = rt.alloc();
-    let expected = "\
+const CALCULATOR_TEXT: &str = "\
 8 conflicts of 4 causes
 cause 1: shift/reduce on \"*\" in states 9 15
   shift by   E = E (*) \"*\" E
@@ -44,14 +30,8 @@ cause 4: shift/reduce on \"+\" in states 10 16
     [E: E \"+\" [E: E (*) \"+\" E]]
     [E: [E: E \"+\" E (*)] \"+\" E]
 ";
-    assert_eq!(rt; shown(alloc, CALCULATOR, 1000)?.as_str(), expected);
-    Ok(())
-}
 
-#[test]
-fn two_reductions(rt: HostRuntime) -> Result<(), Fail> {
-    let alloc = rt.alloc();
-    let expected = "\
+const TWO_REDUCTIONS: &str = "\
 1 conflict of 1 cause
 cause 1: reduce/reduce on Eof in state 3
   reduce     B = \"x\"
@@ -60,15 +40,8 @@ cause 1: reduce/reduce on Eof in state 3
     [S: [B: \"x\" (*)]]
     [S: [A: \"x\" (*)]]
 ";
-    let text = "S = A\nS = B\nA = \"x\"\nB = \"x\"";
-    assert_eq!(rt; shown(alloc, text, 1000)?.as_str(), expected);
-    Ok(())
-}
 
-#[test]
-fn an_empty_right_side(rt: HostRuntime) -> Result<(), Fail> {
-    let alloc = rt.alloc();
-    let expected = "\
+const AN_EMPTY_RIGHT_SIDE: &str = "\
 1 conflict of 1 cause
 cause 1: shift/reduce on \"x\" in state 0
   shift by   S = (*) \"x\"
@@ -77,16 +50,9 @@ cause 1: shift/reduce on \"x\" in state 0
     [S: (*) \"x\"]
     [S: [A: (*)] \"x\"]
 ";
-    let text = "S = A \"x\"\nS = \"x\"\nA =";
-    assert_eq!(rt; shown(alloc, text, 1000)?.as_str(), expected);
-    Ok(())
-}
 
 // Two tokens ahead decide, so the grammar is not ambiguous.
-#[test]
-fn no_witness(rt: HostRuntime) -> Result<(), Fail> {
-    let alloc = rt.alloc();
-    let expected = "\
+const NO_WITNESS: &str = "\
 1 conflict of 1 cause
 cause 1: reduce/reduce on \"x\" in state 3
   reduce     B = \"a\"
@@ -96,15 +62,8 @@ cause 1: reduce/reduce on \"x\" in state 3
     reduce  \"a\" (*) \"x\" \"z\"
     reduce  \"a\" (*) \"x\" \"y\"
 ";
-    let text = "S = A \"x\" \"y\"\nS = B \"x\" \"z\"\nA = \"a\"\nB = \"a\"";
-    assert_eq!(rt; shown(alloc, text, 1000)?.as_str(), expected);
-    Ok(())
-}
 
-#[test]
-fn cut(rt: HostRuntime) -> Result<(), Fail> {
-    let alloc = rt.alloc();
-    let expected = "\
+const CUT: &str = "\
 1 conflict of 1 cause
 cause 1: shift/reduce on \"+\" in state 4
   shift by   E = E (*) \"+\" E
@@ -114,7 +73,31 @@ cause 1: shift/reduce on \"+\" in state 4
     shift   E \"+\" E (*) \"+\" E
     reduce  E \"+\" E (*) \"+\" E
 ";
-    let text = "S = E\nE = E \"+\" E\nE = \"NUM\"";
-    assert_eq!(rt; shown(alloc, text, 0)?.as_str(), expected);
-    Ok(())
+
+// The conflicts of the first grammar are in the states 9, 10, 15 and 16, on `"*"` and then on `"+"` in
+// each.
+const CAUSES: [Case; 6] = [
+    (Ask::Grouped, CALCULATOR, " 0 4\n 1 5\n 2 6\n 3 7\n"),
+    (Ask::Shown(1000), CALCULATOR, CALCULATOR_TEXT),
+    (
+        Ask::Shown(1000),
+        "S = A\nS = B\nA = \"x\"\nB = \"x\"",
+        TWO_REDUCTIONS,
+    ),
+    (
+        Ask::Shown(1000),
+        "S = A \"x\"\nS = \"x\"\nA =",
+        AN_EMPTY_RIGHT_SIDE,
+    ),
+    (
+        Ask::Shown(1000),
+        "S = A \"x\" \"y\"\nS = B \"x\" \"z\"\nA = \"a\"\nB = \"a\"",
+        NO_WITNESS,
+    ),
+    (Ask::Shown(0), "S = E\nE = E \"+\" E\nE = \"NUM\"", CUT),
+];
+
+#[test]
+fn texts(rt: HostRuntime) -> Result<(), Fail> {
+    expect(rt.alloc(), &CAUSES)
 }
