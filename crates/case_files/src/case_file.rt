@@ -51,20 +51,26 @@ impl CaseFile {
     /// The cases of a text, and its faults. `OutOfMemory` if an allocation fails.
     pub fn new(alloc: Global, text: &str) -> Result<Self, OutOfMemory> {
         let mut file = CaseFile::empty(alloc);
+        file.add_all(text)?;
+        Ok(file)
+    }
+
+    // Adds the lines of a text.
+    fn add_all(&mut self, text: &str) -> Result<(), OutOfMemory> {
         let mut rest = text;
         let mut number: usize = 1;
         while let Some((line, more)) = rest.split_once('\n') {
-            file.add(number, line)?;
+            self.add(number, line)?;
             rest = more;
             number = number.saturating_add(1);
         }
         if !rest.is_empty() {
-            file.add(number, rest)?;
+            self.add(number, rest)?;
         }
-        if file.part == Part::Grammar || file.part == Part::Owed {
-            file.fault(number, "the last block has no end")?;
+        if self.part == Part::Grammar || self.part == Part::Owed {
+            self.fault(number, "the last block has no end")?;
         }
-        Ok(file)
+        Ok(())
     }
 
     // A file without lines.

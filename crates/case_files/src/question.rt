@@ -3,7 +3,7 @@ use lalrpop_base::memory::OutOfMemory;
 use std::alloc::{AllocError, AllocFailed, Global};
 
 /// Why a question has no result.
-#[derive(Clone, Copy, Debug, PartialEq, Eq)]
+#[derive(Clone, Copy)]
 pub enum QuestionError {
     /// No call has the name.
     Call,
@@ -44,12 +44,7 @@ impl<'text> Question<'text> {
     pub fn new(alloc: Global, line: &'text str) -> Result<Self, OutOfMemory> {
         let (call, others) = first_word(line);
         let mut arguments = Vec::new(alloc);
-        let mut rest = others;
-        while let Some((word, more)) = rest.split_once(' ') {
-            push_word(&mut arguments, word)?;
-            rest = more;
-        }
-        push_word(&mut arguments, rest)?;
+        push_words(&mut arguments, others)?;
         Ok(Question { call, arguments })
     }
 
@@ -119,6 +114,16 @@ fn first_word(line: &str) -> (&str, &str) {
         Some((word, more)) => (word, more),
         None => (line, ""),
     }
+}
+
+// Adds the words of a text, which spaces separate, as arguments.
+fn push_words<'text>(arguments: &mut Vec<&'text str>, text: &'text str) -> Result<(), OutOfMemory> {
+    let mut rest = text;
+    while let Some((word, more)) = rest.split_once(' ') {
+        push_word(arguments, word)?;
+        rest = more;
+    }
+    push_word(arguments, rest)
 }
 
 // Adds a word as an argument, unless it is empty.

@@ -1,7 +1,7 @@
 use Rattle.std.proofs.Common.{length}
 use denote.Text.{Utf8}
 use denote.Shadow.{shadow}
-use Rattle.case_files.proofs.question.Question.new.Given as goal
+use Rattle.case_files.proofs.question.push_words.Given as goal
 
 abbrev pub invariant-loop-word : goal.invariant-loop-word
 invariant-loop-word l = shadow (Utf8 l.rest)
