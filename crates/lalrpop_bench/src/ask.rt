@@ -1,4 +1,4 @@
-//! The calls that a question can name. Each returns a text.
+//! The calls that a question can name. Each appends its result to a text.
 mod any_start;
 mod error_texts;
 mod grammars;
@@ -14,7 +14,7 @@ use grammar_text::read_error::ReadError;
 use lalrpop_base::repr::grammar::{Algorithm, Grammar};
 use lalrpop_lr1::inline::inline;
 use std::alloc::Global;
-use table_questions::ask::refusal;
+use table_questions::ask::push_refusal;
 use table_questions::question::{Question, QuestionError};
 
 /// The result of a question on the grammar of a text. The errors are those of the question: an
@@ -22,49 +22,61 @@ use table_questions::question::{Question, QuestionError};
 pub(crate) fn answer(
     alloc: Global,
     question: &Question<'_>,
-    text: &str,
+    grammar: &str,
 ) -> Result<String, QuestionError> {
-    match read(alloc, text) {
-        Ok(grammar) => answer_of_grammar(alloc, question, grammar),
-        Err(ReadError::Line(number)) => {
-            Ok(format!(in alloc; "line {number}: not a grammar line\n")?)
-        }
-        Err(ReadError::TooManyActions) => Ok(String::from_str(alloc, "too many actions\n")?),
+    let mut text = String::new(alloc);
+    push_answer(alloc, &mut text, question, grammar)?;
+    Ok(text)
+}
+
+// Appends the result of a question on the grammar of a text.
+fn push_answer(
+    alloc: Global,
+    text: &mut String,
+    question: &Question<'_>,
+    grammar: &str,
+) -> Result<(), QuestionError> {
+    match read(alloc, grammar) {
+        Ok(grammar) => answer_of_grammar(alloc, text, question, grammar),
+        Err(ReadError::Line(number)) => Ok(write!(text, "line {number}: not a grammar line\n")?),
+        Err(ReadError::TooManyActions) => Ok(text.push_str("too many actions\n")?),
         Err(ReadError::Memory) => Err(QuestionError::Memory),
     }
 }
 
-// The result of a question on a grammar as it was read, or else on the grammar with its marked
-// nonterminals inlined.
+// Appends the result of a question on a grammar as it was read, or else on the grammar with its
+// marked nonterminals inlined.
 fn answer_of_grammar(
     alloc: Global,
+    text: &mut String,
     question: &Question<'_>,
     grammar: Grammar,
-) -> Result<String, QuestionError>
+) -> Result<(), QuestionError>
     requires { IsWellFormed grammar }
 {
-    if let Some(text) = grammars::answer(alloc, question, &grammar)? {
-        return Ok(text);
+    if grammars::answer(alloc, text, question, &grammar)? {
+        return Ok(());
     }
     match inline(alloc, grammar) {
-        Ok(inlined) => answer_of_inlined(alloc, question, inlined),
-        Err(error) => refusal(alloc, error),
+        Ok(inlined) => answer_of_inlined(alloc, text, question, inlined),
+        Err(error) => push_refusal(text, &error),
     }
 }
 
-// The result of a question on a grammar without marked nonterminals. The argument `collapsed` marks
-// the grammar for the collapse to LALR(1) states.
+// Appends the result of a question on a grammar without marked nonterminals. The argument
+// `collapsed` marks the grammar for the collapse to LALR(1) states.
 fn answer_of_inlined(
     alloc: Global,
+    text: &mut String,
     question: &Question<'_>,
     grammar: Grammar,
-) -> Result<String, QuestionError>
+) -> Result<(), QuestionError>
     requires { IsWellFormed grammar }
 {
     if question.has("collapsed") {
-        return answer_of_each(alloc, question, &collapsing(grammar));
+        return answer_of_each(alloc, text, question, &collapsing(grammar));
     }
-    answer_of_each(alloc, question, &grammar)
+    answer_of_each(alloc, text, question, &grammar)
 }
 
 // The grammar, marked for the collapse to LALR(1) states.
@@ -86,46 +98,48 @@ fn collapsing(grammar: Grammar) -> Grammar
     }
 }
 
-// The result of the first group of calls that has the call of the question.
+// Appends the result of the first group of calls that has the call of the question.
 fn answer_of_each(
     alloc: Global,
+    text: &mut String,
     question: &Question<'_>,
     grammar: &Grammar,
-) -> Result<String, QuestionError>
+) -> Result<(), QuestionError>
     requires { IsWellFormed grammar.now }
 {
-    if let Some(text) = grammars::answer_inlined(alloc, question, grammar)? {
-        return Ok(text);
+    if grammars::answer_inlined(text, question, grammar)? {
+        return Ok(());
     }
-    if let Some(text) = table_questions::ask::answer(alloc, question, grammar)? {
-        return Ok(text);
+    if table_questions::ask::answer(alloc, text, question, grammar)? {
+        return Ok(());
     }
-    if let Some(text) = answer_of_runs(alloc, question, grammar)? {
-        return Ok(text);
+    if answer_of_runs(alloc, text, question, grammar)? {
+        return Ok(());
     }
     Err(QuestionError::Call)
 }
 
-// The result of a question on reports, parses for any start symbol, runs, error texts and traces.
-// `None` if the call has another name.
+// Appends the result of a question on reports, parses for any start symbol, runs, error texts and
+// traces. Returns `false` if the call has another name.
 fn answer_of_runs(
     alloc: Global,
+    text: &mut String,
     question: &Question<'_>,
     grammar: &Grammar,
-) -> Result<Option<String>, QuestionError>
+) -> Result<bool, QuestionError>
     requires { IsWellFormed grammar.now }
 {
-    if let Some(text) = reports::answer(alloc, question, grammar)? {
-        return Ok(Some(text));
+    if reports::answer(alloc, text, question, grammar)? {
+        return Ok(true);
     }
-    if let Some(text) = any_start::answer(alloc, question, grammar)? {
-        return Ok(Some(text));
+    if any_start::answer(alloc, text, question, grammar)? {
+        return Ok(true);
     }
-    if let Some(text) = runs::answer(alloc, question, grammar)? {
-        return Ok(Some(text));
+    if runs::answer(alloc, text, question, grammar)? {
+        return Ok(true);
     }
-    if let Some(text) = error_texts::answer(alloc, question)? {
-        return Ok(Some(text));
+    if error_texts::answer(alloc, text, question)? {
+        return Ok(true);
     }
-    traces::answer(alloc, question, grammar)
+    traces::answer(alloc, text, question, grammar)
 }

@@ -6,7 +6,7 @@ use std::alloc::Global;
 use table_questions::question::{Question, QuestionError};
 
 /// The numbers of cases that agree and that differ, and whether something could not be asked.
-#[derive(Clone, Copy, Debug, Default, PartialEq, Eq)]
+#[derive(Clone, Copy, Default)]
 pub(crate) struct Tally {
     pub(crate) agree: usize,
     pub(crate) differ: usize,
@@ -50,6 +50,18 @@ pub(crate) fn compare_file(
 ) -> Result<(String, Tally), OutOfMemory> {
     let mut report = String::new(alloc);
     let mut tally = Tally::default();
+    compare_bytes(alloc, &mut report, &mut tally, name, bytes)?;
+    Ok((report, tally))
+}
+
+// Asks the cases of the bytes of a file.
+fn compare_bytes(
+    alloc: Global,
+    report: &mut String,
+    tally: &mut Tally,
+    name: &str,
+    bytes: &[u8],
+) -> Result<(), OutOfMemory> {
     let text = String::from_utf8_lossy(alloc, bytes)?;
     if text.as_bytes() != bytes {
         let line = first_other_line(text.as_bytes(), bytes);
@@ -57,14 +69,25 @@ pub(crate) fn compare_file(
         tally.is_faulty = true;
     }
     let file = CaseFile::new(alloc, text.as_str())?;
+    compare_cases(alloc, report, tally, name, &file)
+}
+
+// Reports the faults of a file, and asks its cases.
+fn compare_cases(
+    alloc: Global,
+    report: &mut String,
+    tally: &mut Tally,
+    name: &str,
+    file: &CaseFile,
+) -> Result<(), OutOfMemory> {
     for fault in &file.faults {
         write!(report, "{name}, line {}: {}\n", fault.line, fault.what)?;
         tally.is_faulty = true;
     }
     for case in &file.cases {
-        compare_case(alloc, &mut report, &mut tally, name, case)?;
+        compare_case(alloc, report, tally, name, case)?;
     }
-    Ok((report, tally))
+    Ok(())
 }
 
 // The number of the first line in which two texts differ, counted from 1.

@@ -40,11 +40,16 @@ pub(crate) fn refuse_in_files(rt: &HostRuntime, names: &[String]) -> anyhow::Res
             println!(rt; "{name}: cannot be read")?;
             return Ok(2);
         };
-        let text = String::from_utf8_lossy(rt.alloc(), &bytes).context("out of memory")?;
-        let file = CaseFile::new(rt.alloc(), text.as_str()).context("out of memory")?;
-        take_cases(file, &mut cases).context("out of memory")?;
+        take_bytes(rt.alloc(), &bytes, &mut cases).context("out of memory")?;
     }
     refuse_in_cases(rt, &cases)
+}
+
+// Takes the first cases of each call in the bytes of a file.
+fn take_bytes(alloc: Global, bytes: &[u8], cases: &mut Vec<Case>) -> Result<(), OutOfMemory> {
+    let text = String::from_utf8_lossy(alloc, bytes)?;
+    let file = CaseFile::new(alloc, text.as_str())?;
+    Ok(take_cases(file, cases)?)
 }
 
 // Takes the first cases of each call in a file, up to `CASES` of a call.

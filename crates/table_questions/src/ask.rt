@@ -1,4 +1,4 @@
-//! The calls that a question can name. Each returns a text.
+//! The calls that a question can name. Each appends its result to a text.
 pub mod arguments;
 pub mod augment;
 pub mod changes;
@@ -22,80 +22,84 @@ use lalrpop_base::repr::grammar::Grammar;
 use lalrpop_base::repr::norm_error::NormError;
 use std::alloc::Global;
 
-/// The result of a question on sets, states and lanes. `None` if the call has another name. An
-/// argument of a wrong form and an allocation failure are errors.
+/// Appends the result of a question on sets, states and lanes. Returns `false` and appends nothing
+/// if the call has another name. An argument of a wrong form and an allocation failure are errors.
 pub fn answer(
     alloc: Global,
+    text: &mut String,
     question: &Question<'_>,
     grammar: &Grammar,
-) -> Result<Option<String>, QuestionError>
+) -> Result<bool, QuestionError>
     requires { IsWellFormed grammar.now }
 {
-    if let Some(text) = answer_of_states(alloc, question, grammar)? {
-        return Ok(Some(text));
+    if answer_of_states(alloc, text, question, grammar)? {
+        return Ok(true);
     }
-    answer_of_lanes(alloc, question, grammar)
+    answer_of_lanes(alloc, text, question, grammar)
 }
 
-/// The message for an error of inlining or augmenting a grammar.
-pub fn refusal(alloc: Global, error: NormError) -> Result<String, QuestionError> {
+/// Appends the message for an error of inlining or augmenting a grammar.
+pub fn push_refusal(text: &mut String, error: &NormError) -> Result<(), QuestionError> {
     match error {
-        NormError::Cycle { span: _, name } => Ok(format!(in alloc; "cyclic inline of {name}\n")?),
-        NormError::TooManyActions => Ok(String::from_str(alloc, "too many actions\n")?),
-        NormError::Memory => Err(QuestionError::Memory),
+        NormError::Cycle { span: _, name } => write!(text, "cyclic inline of {name}\n")?,
+        NormError::TooManyActions => text.push_str("too many actions\n")?,
+        NormError::Memory => return Err(QuestionError::Memory),
     }
+    Ok(())
 }
 
-// The result of a question on sets, states, entries, views and new start symbols. `None` if the
-// call has another name.
+// Appends the result of a question on sets, states, entries, views and new start symbols. Returns
+// `false` if the call has another name.
 fn answer_of_states(
     alloc: Global,
+    text: &mut String,
     question: &Question<'_>,
     grammar: &Grammar,
-) -> Result<Option<String>, QuestionError>
+) -> Result<bool, QuestionError>
     requires { IsWellFormed grammar.now }
 {
-    if let Some(text) = first_sets::answer(alloc, question, grammar)? {
-        return Ok(Some(text));
+    if first_sets::answer(alloc, text, question, grammar)? {
+        return Ok(true);
     }
-    if let Some(text) = states::answer(alloc, question, grammar)? {
-        return Ok(Some(text));
+    if states::answer(alloc, text, question, grammar)? {
+        return Ok(true);
     }
-    if let Some(text) = entries::answer(alloc, question, grammar)? {
-        return Ok(Some(text));
+    if entries::answer(alloc, text, question, grammar)? {
+        return Ok(true);
     }
-    if let Some(text) = views::answer(alloc, question, grammar)? {
-        return Ok(Some(text));
+    if views::answer(alloc, text, question, grammar)? {
+        return Ok(true);
     }
-    augment::answer(alloc, question, grammar)
+    augment::answer(alloc, text, question, grammar)
 }
 
-// The result of a question on lane tables, context sets, checks, graphs, merging, kernels and token
-// sets. `None` if the call has another name.
+// Appends the result of a question on lane tables, context sets, checks, graphs, merging, kernels
+// and token sets. Returns `false` if the call has another name.
 fn answer_of_lanes(
     alloc: Global,
+    text: &mut String,
     question: &Question<'_>,
     grammar: &Grammar,
-) -> Result<Option<String>, QuestionError>
+) -> Result<bool, QuestionError>
     requires { IsWellFormed grammar.now }
 {
-    if let Some(text) = lane_tables::answer(alloc, question, grammar)? {
-        return Ok(Some(text));
+    if lane_tables::answer(alloc, text, question, grammar)? {
+        return Ok(true);
     }
-    if let Some(text) = context_sets::answer(alloc, question, grammar)? {
-        return Ok(Some(text));
+    if context_sets::answer(alloc, text, question, grammar)? {
+        return Ok(true);
     }
-    if let Some(text) = checks::answer(alloc, question, grammar)? {
-        return Ok(Some(text));
+    if checks::answer(alloc, text, question, grammar)? {
+        return Ok(true);
     }
-    if let Some(text) = graphs::answer(alloc, question, grammar)? {
-        return Ok(Some(text));
+    if graphs::answer(alloc, text, question, grammar)? {
+        return Ok(true);
     }
-    if let Some(text) = merges::answer(alloc, question, grammar)? {
-        return Ok(Some(text));
+    if merges::answer(alloc, text, question, grammar)? {
+        return Ok(true);
     }
-    if let Some(text) = kernels::answer(alloc, question, grammar)? {
-        return Ok(Some(text));
+    if kernels::answer(alloc, text, question, grammar)? {
+        return Ok(true);
     }
-    token_sets::answer(alloc, question, grammar)
+    token_sets::answer(alloc, text, question, grammar)
 }

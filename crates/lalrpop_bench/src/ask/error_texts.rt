@@ -17,22 +17,20 @@ use std::alloc::Global;
 use std::io::{self, ErrorKind};
 use table_questions::question::{Question, QuestionError};
 
-/// The result of a question on the texts of errors. `None` if the call has another name.
+/// Appends the texts of errors. Returns `false` if the call has another name.
 pub(crate) fn answer(
     alloc: Global,
+    text: &mut String,
     question: &Question<'_>,
-) -> Result<Option<String>, QuestionError> {
-    match question.call {
-        "error_texts" => {
-            let mut text = String::new(alloc);
-            push_of_grammars(alloc, &mut text)?;
-            push_of_tables(alloc, &mut text)?;
-            push_of_parses(alloc, &mut text)?;
-            push_of_reports(&mut text)?;
-            Ok(Some(text))
-        }
-        _ => Ok(None),
+) -> Result<bool, QuestionError> {
+    if question.call != "error_texts" {
+        return Ok(false);
     }
+    push_of_grammars(alloc, text)?;
+    push_of_tables(alloc, text)?;
+    push_of_parses(alloc, text)?;
+    push_of_reports(text)?;
+    Ok(true)
 }
 
 // Appends the texts of errors of grammars.

@@ -6,105 +6,106 @@ use lalrpop_base::repr::grammar::Grammar;
 use lalrpop_base::repr::norm_error::NormError;
 use lalrpop_lr1::inline::inline_order;
 use std::alloc::Global;
-use table_questions::ask::refusal;
+use table_questions::ask::push_refusal;
 use table_questions::question::{Question, QuestionError};
 use table_questions::show::grammar::{
     push_grammar, push_inline_actions, push_names, push_productions,
 };
 
-/// The result of a question on a grammar as it was read. `None` if the call has another name.
+/// Appends the result of a question on a grammar as it was read. Returns `false` if the call has
+/// another name.
 pub(crate) fn answer(
     alloc: Global,
+    text: &mut String,
     question: &Question<'_>,
     grammar: &Grammar,
-) -> Result<Option<String>, QuestionError> {
+) -> Result<bool, QuestionError> {
     match question.call {
-        "read" => Ok(Some(read_grammar(alloc, grammar)?)),
-        "inline_order" => Ok(Some(order(alloc, grammar)?)),
-        "cycle" => Ok(Some(cycle(alloc, grammar)?)),
-        "grammar_builder" => Ok(Some(built(alloc, question)?)),
-        "literals" => Ok(Some(literals_of(alloc, question)?)),
-        _ => Ok(None),
+        "read" => push_grammar(text, grammar)?,
+        "inline_order" => push_order(alloc, text, grammar)?,
+        "cycle" => push_cycle(alloc, text, grammar)?,
+        "grammar_builder" => push_built(alloc, text, question)?,
+        "literals" => push_literals(alloc, text, question)?,
+        _ => return Ok(false),
     }
+    Ok(true)
 }
 
-/// The result of a question on an inlined grammar. `None` if the call has another name.
+/// Appends the productions of an inlined grammar, and the actions that inlining made. Returns
+/// `false` if the call has another name.
 pub(crate) fn answer_inlined(
-    alloc: Global,
+    text: &mut String,
     question: &Question<'_>,
     grammar: &Grammar,
-) -> Result<Option<String>, QuestionError> {
-    match question.call {
-        "inline" => Ok(Some(inlined(alloc, grammar)?)),
-        _ => Ok(None),
+) -> Result<bool, QuestionError> {
+    if question.call != "inline" {
+        return Ok(false);
     }
+    push_productions(text, grammar)?;
+    push_inline_actions(text, grammar)?;
+    Ok(true)
 }
 
-// The entries and terminals of a grammar.
-fn read_grammar(alloc: Global, grammar: &Grammar) -> Result<String, QuestionError> {
-    let mut text = String::new(alloc);
-    push_grammar(&mut text, grammar)?;
-    Ok(text)
-}
-
-// The order in which marked nonterminals are inlined.
-fn order(alloc: Global, grammar: &Grammar) -> Result<String, QuestionError> {
+// Appends the order in which marked nonterminals are inlined.
+fn push_order(alloc: Global, text: &mut String, grammar: &Grammar) -> Result<(), QuestionError> {
     match inline_order(alloc, grammar) {
         Ok(names) => {
-            let mut text = String::from_str(alloc, "order")?;
-            push_names(&mut text, &names)?;
-            text.push_str("\n")?;
-            Ok(text)
+            text.push_str("order")?;
+            push_names(text, &names)?;
+            Ok(text.push_str("\n")?)
         }
-        Err(error) => refusal(alloc, error),
+        Err(error) => push_refusal(text, &error),
     }
 }
 
-// The name and the span with which a ring of marked nonterminals is reported.
-fn cycle(alloc: Global, grammar: &Grammar) -> Result<String, QuestionError> {
+// Appends the name and the span with which a ring of marked nonterminals is reported.
+fn push_cycle(alloc: Global, text: &mut String, grammar: &Grammar) -> Result<(), QuestionError> {
     match inline_order(alloc, grammar) {
-        Ok(_) => Ok(String::from_str(alloc, "no cycle\n")?),
+        Ok(_) => Ok(text.push_str("no cycle\n")?),
         Err(NormError::Cycle { span, name }) => {
-            Ok(format!(in alloc; "{name} at {}..{}\n", span.0, span.1)?)
+            Ok(write!(text, "{name} at {}..{}\n", span.0, span.1)?)
         }
-        Err(error) => refusal(alloc, error),
+        Err(error) => push_refusal(text, &error),
     }
 }
 
-// The productions of an inlined grammar, and the actions that inlining made.
-fn inlined(alloc: Global, grammar: &Grammar) -> Result<String, QuestionError> {
-    let mut text = String::new(alloc);
-    push_productions(&mut text, grammar)?;
-    push_inline_actions(&mut text, grammar)?;
-    Ok(text)
-}
-
-// The grammar that a builder makes of the productions and marks between commas, or the error of the
-// builder.
-fn built(alloc: Global, question: &Question<'_>) -> Result<String, QuestionError> {
-    let mut text = String::new(alloc);
+// Appends the grammar that a builder makes of the productions and marks between commas, or the error
+// of the builder.
+fn push_built(
+    alloc: Global,
+    text: &mut String,
+    question: &Question<'_>,
+) -> Result<(), QuestionError> {
     match grammar_of(alloc, question.from(1)) {
-        Ok(grammar) => push_grammar(&mut text, &grammar)?,
-        Err(BuilderError::Memory) => return Err(QuestionError::Memory),
-        Err(error) => write!(text, "{error}\n")?,
+        Ok(grammar) => Ok(push_grammar(text, &grammar)?),
+        Err(BuilderError::Memory) => Err(QuestionError::Memory),
+        Err(error) => Ok(write!(text, "{error}\n")?),
     }
-    Ok(text)
 }
 
 // The grammar of the productions and marks between commas.
 fn grammar_of(alloc: Global, words: &[&str]) -> Result<Grammar, BuilderError> {
     let mut builder = GrammarBuilder::new(alloc);
+    add_lines(alloc, &mut builder, words)?;
+    builder.finish()
+}
+
+// Adds the lines between commas to a builder.
+fn add_lines(
+    alloc: Global,
+    builder: &mut GrammarBuilder,
+    words: &[&str],
+) -> Result<(), BuilderError> {
     let mut line = Vec::new(alloc);
     for word in words {
         if *word == "," {
-            add_line(alloc, &mut builder, &line)?;
-            line = Vec::new(alloc);
+            add_line(alloc, builder, &line)?;
+            line.clear();
         } else {
             line.push(*word)?;
         }
     }
-    add_line(alloc, &mut builder, &line)?;
-    builder.finish()
+    add_line(alloc, builder, &line)
 }
 
 // Adds a line to a builder: a mark, or a production with its name and `=` or `:` in front. After `:`
@@ -140,12 +141,15 @@ fn pairs_of<'a>(alloc: Global, words: &[&'a str]) -> Result<Vec<SymbolText<'a>>,
     Ok(symbols)
 }
 
-// The literals whose texts are the arguments.
-fn literals_of(alloc: Global, question: &Question<'_>) -> Result<String, QuestionError> {
-    let mut text = String::from_str(alloc, "literals")?;
+// Appends the literals whose texts are the arguments.
+fn push_literals(
+    alloc: Global,
+    text: &mut String,
+    question: &Question<'_>,
+) -> Result<(), QuestionError> {
+    text.push_str("literals")?;
     for literal in &literals(alloc, question.from(1))? {
         write!(text, " {literal}")?;
     }
-    text.push_str("\n")?;
-    Ok(text)
+    Ok(text.push_str("\n")?)
 }

@@ -13,32 +13,38 @@ use table_questions::ask::arguments::{method_at, options_from};
 use table_questions::ask::states::start_of;
 use table_questions::question::{Question, QuestionError};
 
-/// The result of a question on a report. `None` if the call has another name.
+/// Appends the report of the states that the arguments ask for. Returns `false` if the call has
+/// another name.
 pub(crate) fn answer(
     alloc: Global,
+    text: &mut String,
     question: &Question<'_>,
     grammar: &Grammar,
-) -> Result<Option<String>, QuestionError>
+) -> Result<bool, QuestionError>
     requires { IsWellFormed grammar.now }
 {
-    match question.call {
-        "generate_report" => Ok(Some(report(alloc, question, grammar)?)),
-        _ => Ok(None),
+    if question.call != "generate_report" {
+        return Ok(false);
     }
-}
-
-// The report of the states that the arguments ask for.
-fn report(
-    alloc: Global,
-    question: &Question<'_>,
-    grammar: &Grammar,
-) -> Result<String, QuestionError>
-    requires { IsWellFormed grammar.now }
-{
     let start = start_of(alloc, question, 1)?;
     if question.argument(2)? == "lr0" {
-        return lr0_report(alloc, grammar, start);
+        push_lr0_report(alloc, text, grammar, start)?;
+    } else {
+        push_lr1_report(alloc, text, question, grammar, start)?;
     }
+    Ok(true)
+}
+
+// Appends the report of the states of a method.
+fn push_lr1_report(
+    alloc: Global,
+    text: &mut String,
+    question: &Question<'_>,
+    grammar: &Grammar,
+    start: NonterminalString,
+) -> Result<(), QuestionError>
+    requires { IsWellFormed grammar.now }
+{
     let method = method_at(question, 2)?;
     let is_reversed = question.is(3, "reversed");
     let from = if is_reversed { 4 } else { 3 };
@@ -47,7 +53,7 @@ fn report(
     if is_reversed {
         reverse_conflicts(&mut answer);
     }
-    lr1_report(alloc, grammar, &answer)
+    push_report(alloc, text, grammar, &answer)
 }
 
 // Reverses the order of the conflicts, if there are any.
@@ -57,12 +63,13 @@ fn reverse_conflicts(answer: &mut Lr1Result<'_>) {
     }
 }
 
-// The report of LR(0) states.
-fn lr0_report(
+// Appends the report of LR(0) states.
+fn push_lr0_report(
     alloc: Global,
+    text: &mut String,
     grammar: &Grammar,
     start: NonterminalString,
-) -> Result<String, QuestionError>
+) -> Result<(), QuestionError>
     requires { IsWellFormed grammar.now }
 {
     let answer = build_lr0_states(alloc, grammar, start);
@@ -73,33 +80,38 @@ fn lr0_report(
     let written = ReportGenerator::new(&mut out, &grammar.terminals).report_lr_table_construction(
         alloc, &answer,
     );
-    text_of(alloc, written, &out.into_inner())
+    push_written(alloc, text, written, &out.into_inner())
 }
 
-// The report of LR(1) states.
-fn lr1_report(
+// Appends the report of LR(1) states.
+fn push_report(
     alloc: Global,
+    text: &mut String,
     grammar: &Grammar,
     answer: &Lr1Result<'_>,
-) -> Result<String, QuestionError> {
+) -> Result<(), QuestionError> {
     if let Err(BuildError::Memory) = answer {
         return Err(QuestionError::Memory);
     }
     let mut out = Counted::new(Vec::new(alloc));
     let written = generate_report(alloc, &mut out, &grammar.terminals, answer);
-    text_of(alloc, written, &out.into_inner())
+    push_written(alloc, text, written, &out.into_inner())
 }
 
-// The bytes that were written of a report, as text, or the text of the error.
-fn text_of(
+// Appends the bytes that were written of a report, or the text of the error.
+fn push_written(
     alloc: Global,
+    text: &mut String,
     written: Result<(), ReportError>,
     bytes: &[u8],
-) -> Result<String, QuestionError> {
+) -> Result<(), QuestionError> {
     match written {
-        Ok(()) => Ok(String::from_utf8_lossy(alloc, bytes)?),
+        Ok(()) => {
+            let report = String::from_utf8_lossy(alloc, bytes)?;
+            Ok(text.push_str(report.as_str())?)
+        }
         Err(error) if tells_of_memory(&error) => Err(QuestionError::Memory),
-        Err(error) => Ok(format!(in alloc; "{error}\n")?),
+        Err(error) => Ok(write!(text, "{error}\n")?),
     }
 }
 

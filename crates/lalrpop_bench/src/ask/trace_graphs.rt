@@ -9,22 +9,33 @@ use std::alloc::Global;
 use table_questions::ask::items::item_of;
 use table_questions::question::{Question, QuestionError};
 
-/// The results of the calls that the arguments of a question name, one after the other, on one
-/// graph, and then the edges of the graph.
-pub(crate) fn graph_of_words(
+/// Appends the results of the calls that the arguments of a question name, one after the other, on
+/// one graph, and then the edges of the graph.
+pub(crate) fn push_graph_of_words(
     alloc: Global,
+    text: &mut String,
     question: &Question<'_>,
     grammar: &Grammar,
-) -> Result<String, QuestionError> {
-    let mut text = String::new(alloc);
+) -> Result<(), QuestionError> {
     let mut graph = TraceGraph::new(alloc);
+    follow_words(alloc, text, &mut graph, grammar, question)?;
+    Ok(push_trace_edges(text, graph.edges(), &grammar.terminals)?)
+}
+
+// Does what each argument asks for.
+fn follow_words<'grammar>(
+    alloc: Global,
+    text: &mut String,
+    graph: &mut TraceGraph<'grammar>,
+    grammar: &'grammar Grammar,
+    question: &Question<'_>,
+) -> Result<(), QuestionError> {
     let mut number: usize = 1;
     for word in &question.arguments {
-        follow_word(alloc, &mut text, &mut graph, grammar, word, number)?;
+        follow_word(alloc, text, graph, grammar, word, number)?;
         number = number.saturating_add(1);
     }
-    push_trace_edges(&mut text, graph.edges(), &grammar.terminals)?;
-    Ok(text)
+    Ok(())
 }
 
 // Does what an argument asks for: whether an item is a node, the examples of an item, a new node,

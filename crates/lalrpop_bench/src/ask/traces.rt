@@ -2,12 +2,12 @@
 ghost use Rattle.lalrpop_base.specs.Words.{IsWellFormed};
 ghost use Rattle.lalrpop_lr1.specs.Words.{AreKnownEdges};
 
-use super::trace_graphs::graph_of_words;
+use super::trace_graphs::push_graph_of_words;
 use crate::show::example::push_example;
 use crate::show::trace_graph::push_trace_edges;
 use lalrpop_base::first::FirstSets;
 use lalrpop_base::lr1_core::item::Lr0Item;
-use lalrpop_base::lr1_core::state::{BuildError, Lr1State, StateIndex};
+use lalrpop_base::lr1_core::state::{Lr1State, StateIndex};
 use lalrpop_base::memory::OutOfMemory;
 use lalrpop_base::repr::grammar::Grammar;
 use lalrpop_base::repr::terminals::TerminalSet;
@@ -16,6 +16,7 @@ use lalrpop_tables::build::Options;
 use lalrpop_tables::lr1::build_states;
 use std::alloc::Global;
 use table_questions::ask::arguments::{method_at, tokens_between};
+use table_questions::ask::checks::states_of;
 use table_questions::ask::items::item_of;
 use table_questions::ask::states::start_of;
 use table_questions::question::{Question, QuestionError};
@@ -24,29 +25,32 @@ use table_questions::show::words::{push_item, push_tokens};
 // The greatest number of examples that are shown.
 const MOST: usize = 12;
 
-/// The result of a question on traces. `None` if the call has another name.
+/// Appends the result of a question on traces. Returns `false` if the call has another name.
 pub(crate) fn answer(
     alloc: Global,
+    text: &mut String,
     question: &Question<'_>,
     grammar: &Grammar,
-) -> Result<Option<String>, QuestionError>
+) -> Result<bool, QuestionError>
     requires { IsWellFormed grammar.now }
 {
     match question.call {
         "backtrace" | "contains" | "lr0_examples" | "lr1_examples" | "walk" => {
-            Ok(Some(answer_of_grammar(alloc, question, grammar)?))
+            answer_of_grammar(alloc, text, question, grammar)?;
         }
-        "trace_graph" => Ok(Some(graph_of_words(alloc, question, grammar)?)),
-        _ => Ok(None),
+        "trace_graph" => push_graph_of_words(alloc, text, question, grammar)?,
+        _ => return Ok(false),
     }
+    Ok(true)
 }
 
-// The result of a question on the states of a grammar, with or without conflicts.
+// Appends the result of a question on the states of a grammar, with or without conflicts.
 fn answer_of_grammar(
     alloc: Global,
+    text: &mut String,
     question: &Question<'_>,
     grammar: &Grammar,
-) -> Result<String, QuestionError>
+) -> Result<(), QuestionError>
     requires { IsWellFormed grammar.now }
 {
     let start = start_of(alloc, question, 1)?;
@@ -54,22 +58,18 @@ fn answer_of_grammar(
         method: method_at(question, 2)?,
         ..Options::default()
     };
-    match build_states(alloc, grammar, start, &options) {
-        Ok(states) => answer_of_states(alloc, question, grammar, &states),
-        Err(BuildError::Conflicts(error)) => {
-            answer_of_states(alloc, question, grammar, &error.states)
-        }
-        Err(BuildError::Memory) => Err(QuestionError::Memory),
-    }
+    let states = states_of(build_states(alloc, grammar, start, &options))?;
+    answer_of_states(alloc, text, question, grammar, &states)
 }
 
-// The result of a question on the trace of an item of a state.
+// Appends the result of a question on the trace of an item of a state.
 fn answer_of_states<'grammar>(
     alloc: Global,
+    text: &mut String,
     question: &Question<'_>,
     grammar: &'grammar Grammar,
     states: &[Lr1State<'grammar>],
-) -> Result<String, QuestionError>
+) -> Result<(), QuestionError>
     requires { IsWellFormed grammar.now }
 {
     let state = StateIndex(question.number(4)?);
@@ -84,28 +84,27 @@ fn answer_of_states<'grammar>(
         "reduce" => tracer.backtrace_reduce(alloc, state, item.to_lr0())?,
         _ => return Err(QuestionError::Argument(3)),
     };
-    answer_of_graph(alloc, question, grammar, &graph, item)
+    answer_of_graph(alloc, text, question, grammar, &graph, item)
 }
 
-// The result of a question on the graph of the trace of an item.
+// Appends the result of a question on the graph of the trace of an item.
 fn answer_of_graph<'grammar>(
     alloc: Global,
+    text: &mut String,
     question: &Question<'_>,
     grammar: &'grammar Grammar,
     graph: &TraceGraph<'grammar>,
     item: Lr0Item<'grammar>,
-) -> Result<String, QuestionError>
+) -> Result<(), QuestionError>
     requires { IsWellFormed grammar.now }
 {
-    let mut text = String::new(alloc);
     match question.call {
-        "backtrace" => push_trace_edges(&mut text, graph.edges(), &grammar.terminals)?,
-        "contains" => push_all_contained(&mut text, question, grammar, graph)?,
-        "lr0_examples" => push_examples(alloc, &mut text, graph, item)?,
-        "lr1_examples" => push_meeting(alloc, &mut text, question, grammar, graph, item)?,
-        _ => push_walk(alloc, &mut text, grammar, graph, item)?,
+        "backtrace" => Ok(push_trace_edges(text, graph.edges(), &grammar.terminals)?),
+        "contains" => push_all_contained(text, question, grammar, graph),
+        "lr0_examples" => Ok(push_examples(alloc, text, graph, item)?),
+        "lr1_examples" => push_meeting(alloc, text, question, grammar, graph, item),
+        _ => Ok(push_walk(alloc, text, grammar, graph, item)?),
     }
-    Ok(text)
 }
 
 // Appends, for each item of the arguments, whether it is a node.
@@ -163,11 +162,11 @@ fn push_meeting<'grammar>(
 {
     let end = question.arguments.len().saturating_add(1);
     let tokens = tokens_between(alloc, question, 6, end, &grammar.terminals)?;
-    let first_sets = FirstSets::new(alloc, grammar)?;
     if !graph.is_known(&grammar.terminals) {
         text.push_str("unknown terminals\n")?;
         return Ok(());
     }
+    let first_sets = FirstSets::new(alloc, grammar)?;
     let mut left = MOST;
     for example in graph.lr1_examples(alloc, &first_sets, &item.with_lookahead(tokens))? {
         if left == 0 {

@@ -177,15 +177,27 @@ pub fn tokens_between(
 ) -> Result<TokenSet, QuestionError> {
     let mut tokens = TokenSet::new(alloc, terminals);
     for number in from..to {
-        let word = question.argument(number)?;
-        if word == "All" {
-            tokens.union_with(&TokenSet::all(alloc, terminals)?)?;
-        } else if word != "collapsed" {
-            let token = known_token(alloc, question, terminals, number)?;
-            tokens.insert(token, terminals)?;
-        }
+        add_tokens(alloc, question, number, terminals, &mut tokens)?;
     }
     Ok(tokens)
+}
+
+// Adds the tokens that the argument with a number names to a set.
+fn add_tokens(
+    alloc: Global,
+    question: &Question<'_>,
+    number: usize,
+    terminals: &TerminalSet,
+    tokens: &mut TokenSet,
+) -> Result<(), QuestionError> {
+    let word = question.argument(number)?;
+    if word == "All" {
+        tokens.union_with(&TokenSet::all(alloc, terminals)?)?;
+    } else if word != "collapsed" {
+        let token = known_token(alloc, question, terminals, number)?;
+        tokens.insert(token, terminals)?;
+    }
+    Ok(())
 }
 
 /// The number of the first of the arguments `from..to` that is a comma, or `to` if none is.

@@ -1,7 +1,7 @@
 //! Questions on new start symbols.
 ghost use Rattle.lalrpop_base.specs.Words.{IsWellFormed};
 
-use super::refusal;
+use super::push_refusal;
 use super::states::start_of;
 use case_files::question::{Question, QuestionError};
 use case_files::show::states::push_counts;
@@ -13,66 +13,73 @@ use lalrpop_tables::build::{Method, Options};
 use lalrpop_tables::lr1::build_states;
 use std::alloc::Global;
 
-/// The result of a question on a new start symbol. `None` if the call has another name.
+/// Appends the result of a question on a new start symbol. Returns `false` if the call has another
+/// name.
 pub fn answer(
     alloc: Global,
+    text: &mut String,
     question: &Question<'_>,
     grammar: &Grammar,
-) -> Result<Option<String>, QuestionError> {
+) -> Result<bool, QuestionError> {
     match question.call {
-        "augment" => Ok(Some(augmented(alloc, question, grammar)?)),
-        "is_on_no_right_side" => Ok(Some(on_no_right_side(alloc, question, grammar)?)),
-        _ => Ok(None),
+        "augment" => augmented(alloc, text, question, grammar)?,
+        "is_on_no_right_side" => on_no_right_side(alloc, text, question, grammar)?,
+        _ => return Ok(false),
     }
+    Ok(true)
 }
 
-// Whether a nonterminal is on no right side.
+// Appends whether a nonterminal is on no right side.
 fn on_no_right_side(
     alloc: Global,
+    text: &mut String,
     question: &Question<'_>,
     grammar: &Grammar,
-) -> Result<String, QuestionError> {
+) -> Result<(), QuestionError> {
     let name = start_of(alloc, question, 1)?;
-    let answer = is_on_no_right_side(grammar, &name);
-    Ok(format!(in alloc; "{answer}\n")?)
+    write!(text, "{}\n", is_on_no_right_side(grammar, &name))?;
+    Ok(())
 }
 
-// A new start symbol, and the counts of the states that both methods make for it.
+// Appends a new start symbol, and the counts of the states that both methods make for it.
 fn augmented(
     alloc: Global,
+    text: &mut String,
     question: &Question<'_>,
     grammar: &Grammar,
-) -> Result<String, QuestionError> {
+) -> Result<(), QuestionError> {
     let start = start_of(alloc, question, 1)?;
     let copy = grammar.clone(alloc)?;
     if !is_well_formed(&copy) {
-        return Ok(String::from_str(alloc, "not well-formed\n")?);
+        text.push_str("not well-formed\n")?;
+        return Ok(());
     }
     match augment(alloc, copy, start) {
-        Ok((grown, name)) => shown(alloc, &grown, &name),
-        Err(error) => refusal(alloc, error),
+        Ok((grown, name)) => push_augmented(alloc, text, &grown, &name),
+        Err(error) => push_refusal(text, &error),
     }
 }
 
-// The new start symbol, its productions, and the counts of its states by each method.
-fn shown(
+// Appends the new start symbol, its productions, and the counts of its states by each method.
+fn push_augmented(
     alloc: Global,
+    text: &mut String,
     grammar: &Grammar,
     start: &NonterminalString,
-) -> Result<String, QuestionError>
+) -> Result<(), QuestionError>
     requires { IsWellFormed grammar.now }
 {
-    let mut text = format!(in alloc; "start {start}\n")?;
+    write!(text, "start {start}\n")?;
     for production in grammar.productions_for(start) {
         text.push_str("  ")?;
-        push_production(&mut text, production)?;
+        push_production(text, production)?;
         text.push_str("\n")?;
     }
     text.push_str("lane ")?;
-    push_states(alloc, &mut text, grammar, start, Method::Lane)?;
+    push_states(alloc, text, grammar, start, Method::Lane)?;
     text.push_str("canonical ")?;
-    push_states(alloc, &mut text, grammar, start, Method::Canonical)?;
-    Ok(text)
+    push_states(alloc, text, grammar, start, Method::Canonical)?;
+    Ok(())
 }
 
 // Appends the counts of the states that a method makes.

@@ -3,6 +3,7 @@ use super::arguments::{known_symbol, piece_end, tokens_between};
 use case_files::question::{Question, QuestionError};
 use lalrpop_base::lookahead::token_set::TokenSet;
 use lalrpop_base::lr1_core::state::{Items, Lr1State, State, StateIndex};
+use lalrpop_base::memory::OutOfMemory;
 use lalrpop_base::repr::Symbol;
 use lalrpop_base::repr::terminals::TerminalSet;
 use std::alloc::Global;
@@ -93,12 +94,17 @@ fn add(
     let mut added = state_at(question, second, states)?.clone(alloc)?;
     added.index = index;
     if word == "add_items" {
-        added.shifts.clear();
-        added.reductions.clear();
-        added.gotos.clear();
+        leave_items(&mut added);
     }
     states.push(added)?;
     Ok(second.saturating_add(1))
+}
+
+// Leaves a state nothing but its items.
+fn leave_items(state: &mut Lr1State<'_>) {
+    state.shifts.clear();
+    state.reductions.clear();
+    state.gotos.clear();
 }
 
 // Adds an edge from a state by a symbol to a state, or removes such an edge.
@@ -115,20 +121,35 @@ fn change_edge(
     let state = state_at(question, from.saturating_add(1), states)?;
     if question.argument(from)? == "edge" {
         let target = StateIndex(question.number(fourth)?);
-        match symbol {
-            Symbol::Terminal(terminal) => state.shifts.insert(terminal, target)?,
-            Symbol::Nonterminal(name) => state.gotos.insert(name, target)?,
-        };
+        add_edge(state, symbol, target)?;
         return Ok(fourth.saturating_add(1));
     }
-    let old = match symbol {
-        Symbol::Terminal(terminal) => state.shifts.remove(&terminal),
-        Symbol::Nonterminal(name) => state.gotos.remove(&name),
-    };
-    if old.is_none() {
+    if !remove_edge(state, &symbol) {
         return Err(QuestionError::Argument(third));
     }
     Ok(fourth)
+}
+
+// Adds an edge by a symbol.
+fn add_edge(
+    state: &mut Lr1State<'_>,
+    symbol: Symbol,
+    target: StateIndex,
+) -> Result<(), OutOfMemory> {
+    match symbol {
+        Symbol::Terminal(terminal) => state.shifts.insert(terminal, target)?,
+        Symbol::Nonterminal(name) => state.gotos.insert(name, target)?,
+    };
+    Ok(())
+}
+
+// Removes the edge by a symbol, and returns whether there was one.
+fn remove_edge(state: &mut Lr1State<'_>, symbol: &Symbol) -> bool {
+    let old = match symbol {
+        Symbol::Terminal(terminal) => state.shifts.remove(terminal),
+        Symbol::Nonterminal(name) => state.gotos.remove(name),
+    };
+    old.is_some()
 }
 
 // Removes the reductions or the last item of a state, or doubles its reductions or its items. It is
@@ -141,19 +162,19 @@ fn change_list(
 ) -> Result<usize, QuestionError> {
     let second = from.saturating_add(1);
     let state = state_at(question, second, states)?;
-    let mut copy = state.clone(alloc)?;
     let is_empty = match question.argument(from)? {
         "no_reductions" => {
+            let is_empty = state.reductions.is_empty();
             state.reductions.clear();
-            copy.reductions.is_empty()
+            is_empty
         }
         "reductions_twice" => {
-            state.reductions.append(&mut copy.reductions)?;
+            double_reductions(alloc, state)?;
             state.reductions.is_empty()
         }
         "no_last_item" => state.items.vec.pop().is_none(),
         _ => {
-            state.items.vec.append(&mut copy.items.vec)?;
+            double_items(alloc, state)?;
             state.items.vec.is_empty()
         }
     };
@@ -161,6 +182,20 @@ fn change_list(
         return Err(QuestionError::Argument(second));
     }
     Ok(second.saturating_add(1))
+}
+
+// Lists the reductions of a state twice.
+fn double_reductions(alloc: Global, state: &mut Lr1State<'_>) -> Result<(), OutOfMemory> {
+    let mut copy = state.clone(alloc)?;
+    state.reductions.append(&mut copy.reductions)?;
+    Ok(())
+}
+
+// Lists the items of a state twice.
+fn double_items(alloc: Global, state: &mut Lr1State<'_>) -> Result<(), OutOfMemory> {
+    let mut copy = state.clone(alloc)?;
+    state.items.vec.append(&mut copy.items.vec)?;
+    Ok(())
 }
 
 // Changes the tokens of a reduction of a state.

@@ -17,41 +17,78 @@ use lalrpop_tables::check::check_tables;
 use lalrpop_tables::lane_table::build_lane_table_states;
 use std::alloc::Global;
 
-/// The result of a question on checks. `None` if the call has another name.
+/// Appends the result of a question on checks. Returns `false` if the call has another name.
 pub fn answer(
     alloc: Global,
+    text: &mut String,
     question: &Question<'_>,
     grammar: &Grammar,
-) -> Result<Option<String>, QuestionError>
+) -> Result<bool, QuestionError>
     requires { IsWellFormed grammar.now }
 {
     match question.call {
-        "check_tables" => Ok(Some(check(alloc, question, grammar)?)),
-        "are_collapsible" => {
-            let start = start_of(alloc, question, 1)?;
-            let mut states = states_by(alloc, grammar, start, "canonical")?;
-            change_states(alloc, question, 2, &mut states, &grammar.terminals)?;
-            let coherent = are_coherent(&states);
-            let collapsible = are_collapsible(&states);
-            Ok(Some(format!(in alloc; "are_coherent {coherent}\nare_collapsible {collapsible}\n")?))
-        }
-        _ => Ok(None),
+        "check_tables" => check(alloc, text, question, grammar)?,
+        "are_collapsible" => collapsible(alloc, text, question, grammar)?,
+        _ => return Ok(false),
     }
+    Ok(true)
 }
 
-// Whether the states of a construction pass the check. Arguments can change the states first.
-fn check(alloc: Global, question: &Question<'_>, grammar: &Grammar) -> Result<String, QuestionError>
+// Appends whether the canonical states are coherent and collapsible. Arguments can change the states
+// first.
+fn collapsible(
+    alloc: Global,
+    text: &mut String,
+    question: &Question<'_>,
+    grammar: &Grammar,
+) -> Result<(), QuestionError>
+    requires { IsWellFormed grammar.now }
+{
+    let start = start_of(alloc, question, 1)?;
+    let mut states = states_by(alloc, grammar, start, "canonical")?;
+    change_states(alloc, question, 2, &mut states, &grammar.terminals)?;
+    push_kinds(text, &states)
+}
+
+// Appends whether states are coherent and collapsible.
+fn push_kinds(text: &mut String, states: &[Lr1State<'_>]) -> Result<(), QuestionError> {
+    write!(text, "are_coherent {}\n", are_coherent(states))?;
+    write!(text, "are_collapsible {}\n", are_collapsible(states))?;
+    Ok(())
+}
+
+// Appends whether the states of a construction pass the check.
+fn check(
+    alloc: Global,
+    text: &mut String,
+    question: &Question<'_>,
+    grammar: &Grammar,
+) -> Result<(), QuestionError>
     requires { IsWellFormed grammar.now }
 {
     let start = start_of(alloc, question, 1)?;
     let way = question.argument(2)?;
     let mut states = states_by(alloc, grammar, start, way)?;
-    let (asked, from) = start_asked(alloc, question)?;
-    change_states(alloc, question, from, &mut states, &grammar.terminals)?;
-    match passes(alloc, grammar, asked, &states)? {
-        Some(yes) => Ok(format!(in alloc; "{yes}\n")?),
-        None => Ok(String::from_str(alloc, "not coherent\n")?),
+    check_changed(alloc, text, question, grammar, &mut states)
+}
+
+// Appends whether states pass the check after the changes that arguments name.
+fn check_changed<'grammar>(
+    alloc: Global,
+    text: &mut String,
+    question: &Question<'_>,
+    grammar: &'grammar Grammar,
+    states: &mut Vec<Lr1State<'grammar>>,
+) -> Result<(), QuestionError>
+    requires { IsWellFormed grammar.now }
+{
+    let (start, from) = start_asked(alloc, question)?;
+    change_states(alloc, question, from, states, &grammar.terminals)?;
+    match passes(alloc, grammar, start, states.as_slice())? {
+        Some(yes) => write!(text, "{yes}\n")?,
+        None => text.push_str("not coherent\n")?,
     }
+    Ok(())
 }
 
 // The start symbol for the check, and the number of the first argument after it. It is the start

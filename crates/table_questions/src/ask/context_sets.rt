@@ -19,19 +19,21 @@ use lalrpop_tables::lane_table::context_set::{
 };
 use std::alloc::Global;
 
-/// The result of a question on context sets. `None` if the call has another name.
+/// Appends the result of a question on context sets. Returns `false` if the call has another name.
 pub fn answer(
     alloc: Global,
+    text: &mut String,
     question: &Question<'_>,
     grammar: &Grammar,
-) -> Result<Option<String>, QuestionError>
+) -> Result<bool, QuestionError>
     requires { IsWellFormed grammar.now }
 {
     match question.call {
-        "context_set" => Ok(Some(context_sets(alloc, question, &grammar.terminals)?)),
-        "apply" => Ok(Some(apply(alloc, question, grammar)?)),
-        _ => Ok(None),
+        "context_set" => context_sets(alloc, text, question, &grammar.terminals)?,
+        "apply" => apply(alloc, text, question, grammar)?,
+        _ => return Ok(false),
     }
+    Ok(true)
 }
 
 /// The shifts and reductions of a state that has reductions. There are none for other states.
@@ -52,32 +54,47 @@ pub fn actions_of<'grammar, L>(
     Ok(actions)
 }
 
-// The results of insertions into one set, or into two sets and their union.
+// Appends the results of insertions into one set, or into two sets and their union.
 fn context_sets(
     alloc: Global,
+    text: &mut String,
     question: &Question<'_>,
     terminals: &TerminalSet,
-) -> Result<String, QuestionError> {
+) -> Result<(), QuestionError> {
     let count = question.number(1)?;
     let after = question.arguments.len().saturating_add(1);
     let bar = bar_of(question);
-    let mut text = String::new(alloc);
-    let first = filled(alloc, &mut text, question, count, 2, bar, terminals)?;
+    let first = filled(alloc, text, question, count, 2, bar, terminals)?;
     if bar == after {
-        return Ok(text);
+        return Ok(());
     }
     let from = bar.saturating_add(1);
-    let second = filled(alloc, &mut text, question, count, from, after, terminals)?;
-    match ContextSet::union(alloc, &first, &second) {
+    let second = filled(alloc, text, question, count, from, after, terminals)?;
+    push_union(alloc, text, &first, &second, count, terminals)
+}
+
+// Appends the union of two sets, or that it overlaps.
+fn push_union(
+    alloc: Global,
+    text: &mut String,
+    first: &ContextSet,
+    second: &ContextSet,
+    count: usize,
+    terminals: &TerminalSet,
+) -> Result<(), QuestionError>
+    requires first { count ≡ length first.now }
+    requires second { count ≡ length second.now }
+{
+    match ContextSet::union(alloc, first, second) {
         Ok(union) => {
             text.push_str("union")?;
-            push_columns(alloc, &mut text, &union, count, terminals)?;
+            push_columns(alloc, text, &union, count, terminals)?;
             text.push_str("\n")?;
         }
         Err(OverlappingLookahead::Overlapping) => text.push_str("union overlap\n")?,
         Err(OverlappingLookahead::Memory) => return Err(QuestionError::Memory),
     }
-    Ok(text)
+    Ok(())
 }
 
 // The number of the first argument that is a slash, or one more than the number of all arguments.
@@ -89,8 +106,7 @@ fn bar_of(question: &Question<'_>) -> usize {
     }
 }
 
-// The set of `count` columns with the tokens that the arguments `from..to` insert. A comma is
-// between two insertions.
+// The set of `count` columns with the tokens that the arguments `from..to` insert.
 fn filled(
     alloc: Global,
     text: &mut String,
@@ -103,20 +119,37 @@ fn filled(
     ensures { IfOk result (λ set. count ≡ length set) }
 {
     let mut set = ContextSet::new(alloc, count)?;
+    fill(alloc, text, &mut set, count, question, from, to, terminals)?;
+    Ok(set)
+}
+
+// Inserts the tokens that the arguments `from..to` name, and appends the columns. A comma is between
+// two insertions.
+fn fill(
+    alloc: Global,
+    text: &mut String,
+    set: &mut ContextSet,
+    count: usize,
+    question: &Question<'_>,
+    from: usize,
+    to: usize,
+    terminals: &TerminalSet,
+) -> Result<(), QuestionError>
+    requires { count ≡ length set.old }
+    ensures { count ≡ length set.new }
+{
     let mut begin = from;
     for number in from..to {
         if number == begin {
             let end = piece_end(question, begin, to);
-            insert(
-                alloc, text, &mut set, count, question, begin, end, terminals,
-            )?;
+            insert(alloc, text, set, count, question, begin, end, terminals)?;
             begin = end.saturating_add(1);
         }
     }
     text.push_str("columns")?;
-    push_columns(alloc, text, &set, count, terminals)?;
+    push_columns(alloc, text, set, count, terminals)?;
     text.push_str("\n")?;
-    Ok(set)
+    Ok(())
 }
 
 // Inserts tokens into a column. The first argument is the number of the column, and the others are
@@ -149,33 +182,40 @@ fn insert(
 
 // Makes a context set of the actions of a canonical state, and applies it to the reductions of the
 // state.
-fn apply(alloc: Global, question: &Question<'_>, grammar: &Grammar) -> Result<String, QuestionError>
+fn apply(
+    alloc: Global,
+    text: &mut String,
+    question: &Question<'_>,
+    grammar: &Grammar,
+) -> Result<(), QuestionError>
     requires { IsWellFormed grammar.now }
 {
     let start = start_of(alloc, question, 1)?;
     let mut states = states_by(alloc, grammar, start, "canonical")?;
-    let Some(state) = states.get_mut(question.number(2)?) else {
-        return Err(QuestionError::Argument(2));
-    };
+    match states.get_mut(question.number(2)?) {
+        Some(state) => apply_to(alloc, text, question, state, &grammar.terminals),
+        None => Err(QuestionError::Argument(2)),
+    }
+}
+
+// Makes a context set of the actions of a state, and applies it to the reductions of the state.
+fn apply_to(
+    alloc: Global,
+    text: &mut String,
+    question: &Question<'_>,
+    state: &mut Lr1State<'_>,
+    terminals: &TerminalSet,
+) -> Result<(), QuestionError> {
     let actions = actions_of(alloc, state)?;
-    let mut text = String::new(alloc);
-    push_actions(&mut text, &actions)?;
+    push_actions(text, &actions)?;
+    let count = actions.len();
     let after = question.arguments.len().saturating_add(1);
-    let set = filled(
-        alloc,
-        &mut text,
-        question,
-        actions.len(),
-        3,
-        after,
-        &grammar.terminals,
-    )?;
+    let set = filled(alloc, text, question, count, 3, after, terminals)?;
     if !are_among(&actions, &state.reductions) {
         return Err(QuestionError::Argument(2));
     }
     set.apply(alloc, state, &actions)?;
-    push_reductions(&mut text, state, &grammar.terminals)?;
-    Ok(text)
+    Ok(push_reductions(text, state, terminals)?)
 }
 
 /// Appends the reductions of a state, each on a line of its own.

@@ -2,7 +2,8 @@
 ghost use Rattle.lalrpop_base.specs.Words.{IsWellFormed};
 
 use super::arguments::{method_at, options_from};
-use super::states::{canonical_states, start_of};
+use super::checks::states_by;
+use super::states::start_of;
 use case_files::question::{Question, QuestionError};
 use case_files::show::states::{push_counts, push_entry};
 use lalrpop_base::lookahead::token::Token;
@@ -10,64 +11,86 @@ use lalrpop_base::lr1_core::conflict_count;
 use lalrpop_base::lr1_core::state::Lr1State;
 use lalrpop_base::memory::OutOfMemory;
 use lalrpop_base::repr::grammar::Grammar;
+use lalrpop_base::repr::terminals::TerminalSet;
 use lalrpop_tables::lr1::build_states;
 use std::alloc::Global;
 
-/// The result of a question on entries. `None` if the call has another name.
+/// Appends the result of a question on entries. Returns `false` if the call has another name.
 pub fn answer(
     alloc: Global,
+    text: &mut String,
     question: &Question<'_>,
     grammar: &Grammar,
-) -> Result<Option<String>, QuestionError>
+) -> Result<bool, QuestionError>
     requires { IsWellFormed grammar.now }
 {
     match question.call {
-        "action" | "goto" | "edges" => Ok(Some(entries(alloc, question, grammar)?)),
-        "conflict_count" => Ok(Some(counts(alloc, question, grammar)?)),
-        _ => Ok(None),
+        "action" | "goto" | "edges" => entries(alloc, text, question, grammar)?,
+        "conflict_count" => counts(alloc, text, question, grammar)?,
+        _ => return Ok(false),
     }
+    Ok(true)
 }
 
-// The entries of the tables of a grammar, state by state, or the number of its conflicts.
+// Appends the entries of the tables of a grammar, or the number of its conflicts.
 fn entries(
     alloc: Global,
+    text: &mut String,
     question: &Question<'_>,
     grammar: &Grammar,
-) -> Result<String, QuestionError>
+) -> Result<(), QuestionError>
     requires { IsWellFormed grammar.now }
 {
     let start = start_of(alloc, question, 1)?;
     let options = options_from(question, 3, method_at(question, 2)?)?;
-    let mut text = String::new(alloc);
     let built = build_states(alloc, grammar, start, &options);
-    let Ok(states) = &built else {
-        push_counts(&mut text, &built)?;
-        return Ok(text);
-    };
-    for state in states {
-        push_entries(alloc, &mut text, question, grammar, state)?;
+    match &built {
+        Ok(states) => Ok(push_all_entries(alloc, text, question, grammar, states)?),
+        Err(_) => Ok(push_counts(text, &built)?),
     }
-    Ok(text)
 }
 
-// The number of conflicts of each canonical state of a grammar.
-fn counts(
+// Appends the entries of states, state by state.
+fn push_all_entries(
     alloc: Global,
+    text: &mut String,
     question: &Question<'_>,
     grammar: &Grammar,
-) -> Result<String, QuestionError>
+    states: &[Lr1State<'_>],
+) -> Result<(), OutOfMemory> {
+    for state in states {
+        push_entries(alloc, text, question, grammar, state)?;
+    }
+    Ok(())
+}
+
+// Appends the number of conflicts of each canonical state of a grammar.
+fn counts(
+    alloc: Global,
+    text: &mut String,
+    question: &Question<'_>,
+    grammar: &Grammar,
+) -> Result<(), QuestionError>
     requires { IsWellFormed grammar.now }
 {
     let start = start_of(alloc, question, 1)?;
-    let states = canonical_states(alloc, grammar, start)?;
-    let mut text = String::new(alloc);
-    for state in &states {
-        match conflict_count(state, &grammar.terminals) {
+    let states = states_by(alloc, grammar, start, "canonical")?;
+    Ok(push_conflict_counts(text, &states, &grammar.terminals)?)
+}
+
+// Appends the number of conflicts of each state.
+fn push_conflict_counts(
+    text: &mut String,
+    states: &[Lr1State<'_>],
+    terminals: &TerminalSet,
+) -> Result<(), OutOfMemory> {
+    for state in states {
+        match conflict_count(state, terminals) {
             Some(count) => write!(text, "state {}: {count}\n", state.index)?,
             None => write!(text, "state {}: too many\n", state.index)?,
         }
     }
-    Ok(text)
+    Ok(())
 }
 
 // Appends the entries of a state that the question asks for.

@@ -11,45 +11,49 @@ use lalrpop_base::repr::grammar::Grammar;
 use lalrpop_base::repr::terminals::TerminalSet;
 use std::alloc::Global;
 
-/// The result of a question on FIRST sets. `None` if the call has another name.
+/// Appends the result of a question on FIRST sets. Returns `false` if the call has another name.
 pub fn answer(
     alloc: Global,
+    text: &mut String,
     question: &Question<'_>,
     grammar: &Grammar,
-) -> Result<Option<String>, QuestionError>
+) -> Result<bool, QuestionError>
     requires { IsWellFormed grammar.now }
 {
     match question.call {
-        "first0" => Ok(Some(first0(alloc, question, grammar)?)),
-        "first1" => Ok(Some(first1(alloc, question, grammar)?)),
-        "is_nullable" => Ok(Some(nullable(alloc, question, grammar)?)),
-        _ => Ok(None),
+        "first0" => first0(alloc, text, question, grammar)?,
+        "first1" => first1(alloc, text, question, grammar)?,
+        "is_nullable" => nullable(alloc, text, question, grammar)?,
+        _ => return Ok(false),
     }
+    Ok(true)
 }
 
-// The FIRST set of symbols.
+// Appends the FIRST set of symbols.
 fn first0(
     alloc: Global,
+    text: &mut String,
     question: &Question<'_>,
     grammar: &Grammar,
-) -> Result<String, QuestionError>
+) -> Result<(), QuestionError>
     requires { IsWellFormed grammar.now }
 {
-    let sets = FirstSets::new(alloc, grammar)?;
     let symbols = known_symbols(alloc, question.from(1), &grammar.terminals, 1)?;
+    let sets = FirstSets::new(alloc, grammar)?;
     let set = sets.first0(alloc, symbols.as_slice())?;
-    shown(alloc, &set, &grammar.terminals)
+    push_set(text, &set, &grammar.terminals)
 }
 
-// The FIRST set of symbols and then a set of tokens. The arguments have the tokens after a comma.
+// Appends the FIRST set of symbols and then a set of tokens. The arguments have the tokens after a
+// comma.
 fn first1(
     alloc: Global,
+    text: &mut String,
     question: &Question<'_>,
     grammar: &Grammar,
-) -> Result<String, QuestionError>
+) -> Result<(), QuestionError>
     requires { IsWellFormed grammar.now }
 {
-    let sets = FirstSets::new(alloc, grammar)?;
     let count = question.until(",");
     let Some((words, others)) = question.from(1).split_at_checked(count) else {
         return Err(QuestionError::Argument(1));
@@ -58,32 +62,37 @@ fn first1(
         return Err(QuestionError::Argument(count.saturating_add(1)));
     }
     let symbols = known_symbols(alloc, words, &grammar.terminals, 1)?;
-    let (first, end) = (
-        count.saturating_add(2),
-        question.arguments.len().saturating_add(1),
-    );
+    let first = count.saturating_add(2);
+    let end = question.arguments.len().saturating_add(1);
     let follow = tokens_between(alloc, question, first, end, &grammar.terminals)?;
+    let sets = FirstSets::new(alloc, grammar)?;
     let set = sets.first1(alloc, symbols.as_slice(), &follow)?;
-    shown(alloc, &set, &grammar.terminals)
+    push_set(text, &set, &grammar.terminals)
 }
 
-// Whether a nonterminal derives the empty list.
+// Appends whether a nonterminal derives the empty list.
 fn nullable(
     alloc: Global,
+    text: &mut String,
     question: &Question<'_>,
     grammar: &Grammar,
-) -> Result<String, QuestionError>
+) -> Result<(), QuestionError>
     requires { IsWellFormed grammar.now }
 {
-    let sets = FirstSets::new(alloc, grammar)?;
     let name = start_of(alloc, question, 1)?;
-    Ok(format!(in alloc; "nullable {}\n", sets.is_nullable(&name))?)
+    let sets = FirstSets::new(alloc, grammar)?;
+    write!(text, "nullable {}\n", sets.is_nullable(&name))?;
+    Ok(())
 }
 
-// The text of a set of tokens.
-fn shown(alloc: Global, set: &TokenSet, terminals: &TerminalSet) -> Result<String, QuestionError> {
-    let mut text = String::from_str(alloc, "tokens")?;
-    push_tokens(&mut text, set, terminals)?;
+// Appends a set of tokens.
+fn push_set(
+    text: &mut String,
+    set: &TokenSet,
+    terminals: &TerminalSet,
+) -> Result<(), QuestionError> {
+    text.push_str("tokens")?;
+    push_tokens(text, set, terminals)?;
     text.push_str("\n")?;
-    Ok(text)
+    Ok(())
 }

@@ -16,12 +16,14 @@ use lalrpop_tables::build::build_lr0_states;
 use lalrpop_tables::state_graph::StateGraph;
 use std::alloc::Global;
 
-/// The result of a question on the graph of the LR(0) states. `None` if the call has another name.
+/// Appends the result of a question on the graph of the LR(0) states. Returns `false` if the call has
+/// another name.
 pub fn answer(
     alloc: Global,
+    text: &mut String,
     question: &Question<'_>,
     grammar: &Grammar,
-) -> Result<Option<String>, QuestionError>
+) -> Result<bool, QuestionError>
     requires { IsWellFormed grammar.now }
 {
     match question.call {
@@ -29,9 +31,10 @@ pub fn answer(
             let start = start_of(alloc, question, 1)?;
             let states = lr0_states(alloc, grammar, start)?;
             let graph = StateGraph::new(alloc, &states)?;
-            Ok(Some(graph_answer(alloc, question, &graph, states.len())?))
+            push_answer(alloc, text, question, &graph, states.len())?;
+            Ok(true)
         }
-        _ => Ok(None),
+        _ => Ok(false),
     }
 }
 
@@ -54,31 +57,41 @@ pub fn lr0_states<'grammar>(
     }
 }
 
-// The result of a question on a graph.
-fn graph_answer(
+// Appends the result of a question on a graph.
+fn push_answer(
     alloc: Global,
+    text: &mut String,
     question: &Question<'_>,
     graph: &StateGraph,
     count: usize,
-) -> Result<String, QuestionError> {
-    let mut text = String::new(alloc);
+) -> Result<(), QuestionError> {
     if question.call == "state_graph" {
-        push_graph(alloc, &mut text, graph, count)?;
-        return Ok(text);
+        return Ok(push_graph(alloc, text, graph, count)?);
     }
     let state = StateIndex(question.number(2)?);
     text.push_str("states")?;
     if question.call == "trace_back" {
-        let Some(symbols) = symbols_of(alloc, question.from(3))? else {
-            return Err(QuestionError::Argument(3));
-        };
-        let found = graph.trace_back(alloc, state, symbols.as_slice())?;
-        push_state_list(&mut text, &found)?;
+        push_traced_back(alloc, text, question, graph, state)?;
     } else {
-        push_predecessors(alloc, &mut text, question, graph, state)?;
+        push_predecessors(alloc, text, question, graph, state)?;
     }
     text.push_str("\n")?;
-    Ok(text)
+    Ok(())
+}
+
+// Appends the states from which the symbols from the third argument on lead to a state.
+fn push_traced_back(
+    alloc: Global,
+    text: &mut String,
+    question: &Question<'_>,
+    graph: &StateGraph,
+    state: StateIndex,
+) -> Result<(), QuestionError> {
+    let Some(symbols) = symbols_of(alloc, question.from(3))? else {
+        return Err(QuestionError::Argument(3));
+    };
+    let found = graph.trace_back(alloc, state, symbols.as_slice())?;
+    Ok(push_state_list(text, &found)?)
 }
 
 // Appends the successors of each state.

@@ -5,47 +5,61 @@ use case_files::show::words::push_item;
 use grammar_text::symbols::pieces;
 use lalrpop_base::kernel_set::{self, KernelSet};
 use lalrpop_base::lookahead::nil::Nil;
-use lalrpop_base::lr1_core::item::{Item, Lr0Item};
 use lalrpop_base::memory::OutOfMemory;
-use lalrpop_base::repr::Production;
 use lalrpop_base::repr::grammar::Grammar;
 use lalrpop_base::sequence::Sequence;
 use lalrpop_tables::build::Kernel;
 use std::alloc::Global;
 
-/// The result of a question on kernels. `None` if the call has another name.
+/// Appends the numbers of the kernels that are added, and the kernels that `next` returns between the
+/// additions. Returns `false` if the call has another name.
 pub fn answer(
     alloc: Global,
+    text: &mut String,
     question: &Question<'_>,
     grammar: &Grammar,
-) -> Result<Option<String>, QuestionError> {
-    match question.call {
-        "kernel_set" => Ok(Some(kernels(alloc, question, grammar)?)),
-        _ => Ok(None),
+) -> Result<bool, QuestionError> {
+    if question.call != "kernel_set" {
+        return Ok(false);
     }
+    let mut set = KernelSet::new(alloc);
+    push_kernels(alloc, text, question, grammar, &mut set)?;
+    Ok(true)
 }
 
-// The numbers of the kernels that are added, and the kernels that `next` returns between the
-// additions.
-fn kernels(
+// Does what each argument asks for, on a set.
+fn push_kernels<'grammar>(
     alloc: Global,
+    text: &mut String,
     question: &Question<'_>,
-    grammar: &Grammar,
-) -> Result<String, QuestionError> {
-    let mut text = String::new(alloc);
-    let mut set = KernelSet::new(alloc);
+    grammar: &'grammar Grammar,
+    set: &mut KernelSet<Kernel<'grammar, Nil>>,
+) -> Result<(), QuestionError> {
     for (place, word) in question.arguments.iter().enumerate() {
         if *word == "next" {
-            push_next(&mut text, set.next(), grammar)?;
-        } else if let Some(kernel) = kernel_of(alloc, grammar, word)? {
-            let copy = kernel_set::Kernel::copy(&kernel, alloc)?;
-            let number = set.add_state(copy)?;
-            write!(text, "added {number}\n")?;
-        } else {
+            push_next(text, set.next(), grammar)?;
+        } else if !add_kernel(alloc, text, grammar, word, set)? {
             return Err(QuestionError::Argument(place.saturating_add(1)));
         }
     }
-    Ok(text)
+    Ok(())
+}
+
+// Adds the kernel that an argument names, and appends its number. Returns `false` if it names none.
+fn add_kernel<'grammar>(
+    alloc: Global,
+    text: &mut String,
+    grammar: &'grammar Grammar,
+    word: &str,
+    set: &mut KernelSet<Kernel<'grammar, Nil>>,
+) -> Result<bool, OutOfMemory> {
+    let Some(kernel) = kernel_of(alloc, grammar, word)? else {
+        return Ok(false);
+    };
+    let copy = kernel_set::Kernel::copy(&kernel, alloc)?;
+    let number = set.add_state(copy)?;
+    write!(text, "added {number}\n")?;
+    Ok(true)
 }
 
 // Appends the kernel that `next` returned, or `none`.

@@ -28,39 +28,37 @@ use lalrpop_tables::lane_table::{have_own_items, reduces_own};
 use lalrpop_tables::state_graph::StateGraph;
 use std::alloc::Global;
 
-/// The result of a question on lane tables. `None` if the call has another name.
+/// Appends the result of a question on lane tables. Returns `false` if the call has another name.
 pub fn answer(
     alloc: Global,
+    text: &mut String,
     question: &Question<'_>,
     grammar: &Grammar,
-) -> Result<Option<String>, QuestionError>
+) -> Result<bool, QuestionError>
     requires { IsWellFormed grammar.now }
 {
     match question.call {
-        "lane_table" => Ok(Some(traced_table(alloc, question, grammar)?)),
-        "lane_table_of" => Ok(Some(made_table(alloc, question, grammar)?)),
-        "row_of" => Ok(Some(made_row(alloc, question, grammar)?)),
-        _ => Ok(None),
+        "lane_table" => {
+            let traces = traces_of(alloc, question, grammar)?;
+            push_traced(alloc, text, &traces)?;
+        }
+        "lane_table_of" => made_table(alloc, text, question, grammar)?,
+        "row_of" => made_row(alloc, text, question, grammar)?,
+        _ => return Ok(false),
     }
+    Ok(true)
 }
 
-// The lane table after all actions of a state were traced, and the cells that each action gives
-// alone.
-fn traced_table(
-    alloc: Global,
-    question: &Question<'_>,
-    grammar: &Grammar,
-) -> Result<String, QuestionError>
-    requires { IsWellFormed grammar.now }
+// Appends the lane table after all actions of a state were traced, and the cells that each action
+// gives alone.
+fn push_traced(alloc: Global, text: &mut String, traces: &Traces<'_>) -> Result<(), QuestionError>
+    requires { AreReadyToTrace traces.now }
 {
-    let traces = traces_of(alloc, question, grammar)?;
-    let mut text = String::new(alloc);
-    push_actions(&mut text, &traces.actions)?;
-    push_cells(alloc, &mut text, &traces)?;
-    let table = traced(alloc, &traces, 0, traces.actions.len())?;
+    push_actions(text, &traces.actions)?;
+    push_cells(alloc, text, traces)?;
+    let table = traced(alloc, traces, 0, traces.actions.len())?;
     let count = traces.states.len();
-    push_lane_table(alloc, &mut text, &table, count, &grammar.terminals)?;
-    Ok(text)
+    Ok(push_lane_table(alloc, text, &table, count, &traces.grammar.terminals)?)
 }
 
 /// A grammar, its LR(0) states, and the actions of one of them that are traced.
@@ -109,11 +107,24 @@ fn push_cells(alloc: Global, text: &mut String, traces: &Traces<'_>) -> Result<(
     requires { AreReadyToTrace traces.now }
 {
     let mut tables = Vec::new(alloc);
-    for place in 0..traces.actions.len() {
-        tables.push(traced(alloc, traces, place, place.saturating_add(1))?)?;
-    }
+    trace_each(alloc, traces, &mut tables)?;
     for state in 0..traces.states.len() {
         push_cells_of(alloc, text, &tables, state, &traces.grammar.terminals)?;
+    }
+    Ok(())
+}
+
+// Adds a table for each action, which is traced alone.
+fn trace_each<'grammar>(
+    alloc: Global,
+    traces: &Traces<'grammar>,
+    tables: &mut Vec<LaneTable<'grammar>>,
+) -> Result<(), QuestionError>
+    requires { AreReadyToTrace traces.now }
+{
+    for place in 0..traces.actions.len() {
+        let table = traced(alloc, traces, place, place.saturating_add(1))?;
+        tables.push(table)?;
     }
     Ok(())
 }
@@ -180,12 +191,27 @@ pub fn traced<'grammar>(
         &graph,
         count,
     );
+    trace_all(alloc, &mut tracer, traces, from, to)?;
+    Ok(tracer.into_table())
+}
+
+// Traces the actions with the numbers `from..to`.
+fn trace_all<'grammar>(
+    alloc: Global,
+    tracer: &mut LaneTracer<'_, 'grammar, Nil>,
+    traces: &Traces<'grammar>,
+    from: usize,
+    to: usize,
+) -> Result<(), OutOfMemory>
+    requires ready { AreReadyToTrace traces.now }
+    requires tracing { IsTracing traces.now tracer.old }
+{
     let mut place: usize = 0;
     for action in traces.actions.iter() {
-        trace(alloc, &mut tracer, traces, from, to, place, action)?;
+        trace(alloc, tracer, traces, from, to, place, action)?;
         place = place.saturating_add(1);
     }
-    Ok(tracer.into_table())
+    Ok(())
 }
 
 // Traces an action, if its number is in `from..to` and it does not reduce by a production of
@@ -215,34 +241,31 @@ fn trace<'grammar>(
     tracer.start_trace(alloc, state, ConflictIndex::new(place), copy)
 }
 
-// The results of the calls of a table that has the cells and successors that arguments name.
+// Appends the results of the calls of a table that has the cells and successors that arguments name.
 fn made_table(
     alloc: Global,
+    text: &mut String,
     question: &Question<'_>,
     grammar: &Grammar,
-) -> Result<String, QuestionError> {
+) -> Result<(), QuestionError> {
     let table = table_of(alloc, question, grammar)?;
     let count = question.number(2)?;
-    let mut text = String::new(alloc);
-    push_lane_table(alloc, &mut text, &table, count, &grammar.terminals)?;
-    Ok(text)
+    Ok(push_lane_table(alloc, text, &table, count, &grammar.terminals)?)
 }
 
-// The row of a state in such a table, or that its columns overlap.
+// Appends the row of a state in such a table, or that its columns overlap.
 fn made_row(
     alloc: Global,
+    text: &mut String,
     question: &Question<'_>,
     grammar: &Grammar,
-) -> Result<String, QuestionError> {
+) -> Result<(), QuestionError> {
     let table = table_of(alloc, question, grammar)?;
     let state = StateIndex(question.number(2)?);
-    let mut text = String::new(alloc);
-    push_row(alloc, &mut text, &table, state, &grammar.terminals)?;
-    Ok(text)
+    Ok(push_row(alloc, text, &table, state, &grammar.terminals)?)
 }
 
-// A table with the cells and successors that the arguments from the third on name. A comma is
-// between two of them.
+// A table with the cells and successors that the arguments from the third on name.
 fn table_of<'grammar>(
     alloc: Global,
     question: &Question<'_>,
@@ -250,16 +273,28 @@ fn table_of<'grammar>(
 ) -> Result<LaneTable<'grammar>, QuestionError> {
     let columns = question.number(1)?;
     let mut table = LaneTable::new(alloc, grammar, columns);
+    add_all(alloc, &mut table, question, &grammar.terminals)?;
+    Ok(table)
+}
+
+// Adds the cells and successors that the arguments from the third on name. A comma is between two of
+// them.
+fn add_all(
+    alloc: Global,
+    table: &mut LaneTable<'_>,
+    question: &Question<'_>,
+    terminals: &TerminalSet,
+) -> Result<(), QuestionError> {
     let after = question.arguments.len().saturating_add(1);
     let mut begin: usize = 3;
     for number in 3..after {
         if number == begin {
             let end = piece_end(question, begin, after);
-            add(alloc, &mut table, question, begin, end, &grammar.terminals)?;
+            add(alloc, table, question, begin, end, terminals)?;
             begin = end.saturating_add(1);
         }
     }
-    Ok(table)
+    Ok(())
 }
 
 // Adds the cell or the successor that the arguments `from..to` name.

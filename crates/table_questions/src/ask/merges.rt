@@ -2,6 +2,7 @@
 ghost use Rattle.std.specs.Prelude.{IfOk};
 ghost use Rattle.lalrpop_base.specs.Words.{IsWellFormed};
 ghost use Rattle.lalrpop_tables.specs.Words.{IsMerging};
+ghost use Rattle.table_questions.specs.Traces.{AreReadyToTrace};
 
 use super::checks::states_of;
 use super::context_sets::push_reductions;
@@ -18,42 +19,77 @@ use lalrpop_tables::lane_table::table::LaneTable;
 use lalrpop_tables::lane_table::table::rows::RowsError;
 use std::alloc::Global;
 
-/// The result of a question on the merging of states. `None` if the call has another name.
+/// Appends the result of merging the LR(0) states, of which none is a copy yet, by the lane table of
+/// one of them. Returns `false` if the call has another name.
 pub fn answer(
     alloc: Global,
+    text: &mut String,
     question: &Question<'_>,
     grammar: &Grammar,
-) -> Result<Option<String>, QuestionError>
+) -> Result<bool, QuestionError>
     requires { IsWellFormed grammar.now }
 {
-    match question.call {
-        "merge" => Ok(Some(merge(alloc, question, grammar)?)),
-        _ => Ok(None),
+    if question.call != "merge" {
+        return Ok(false);
     }
+    let traces = traces_of(alloc, question, grammar)?;
+    push_merge(alloc, text, question, &traces)?;
+    Ok(true)
 }
 
-// The merging of the LR(0) states, of which none is a copy yet, by the lane table of one of them.
-fn merge(alloc: Global, question: &Question<'_>, grammar: &Grammar) -> Result<String, QuestionError>
-    requires { IsWellFormed grammar.now }
+// Appends the result of merging by the lane table of traces, or that its rows overlap.
+fn push_merge(
+    alloc: Global,
+    text: &mut String,
+    question: &Question<'_>,
+    traces: &Traces<'_>,
+) -> Result<(), QuestionError>
+    requires { AreReadyToTrace traces.now }
 {
-    let traces = traces_of(alloc, question, grammar)?;
-    let table = traced(alloc, &traces, 0, traces.actions.len())?;
-    let mut text = String::new(alloc);
+    let table = traced(alloc, traces, 0, traces.actions.len())?;
     if let Err(RowsError::State(state)) = table.rows(alloc) {
         write!(text, "rows overlap in state {state}\n")?;
-        return Ok(text);
+        return Ok(());
     }
+    push_merge_by(alloc, text, question, traces, &table)
+}
+
+// Appends the result of merging by a lane table.
+fn push_merge_by<'grammar>(
+    alloc: Global,
+    text: &mut String,
+    question: &Question<'_>,
+    traces: &Traces<'grammar>,
+    table: &LaneTable<'grammar>,
+) -> Result<(), QuestionError>
+    requires { AreReadyToTrace traces.now }
+{
+    let grammar = traces.grammar;
     let start = traces.start.clone(alloc)?;
     let states = states_of(build_lane_table_states(alloc, grammar, start, 0))?;
-    let mut merge = merge_of(alloc, question, &table, states)?;
-    if start_all(alloc, &mut text, &mut merge, &table)? {
-        if !merge.is_patchable(&traces.actions) {
-            return Err(QuestionError::Argument(2));
-        }
-        merge.patch_target_starts(alloc, &traces.actions)?;
+    let mut merge = merge_of(alloc, question, table, states)?;
+    merge_all(alloc, text, &mut merge, table, traces)?;
+    let states = merge.into_states();
+    Ok(push_merged(text, &states, traces, &grammar.terminals)?)
+}
+
+// Starts at each beachhead. If no start is refused, it mends the states to which the edges lead.
+fn merge_all<'grammar>(
+    alloc: Global,
+    text: &mut String,
+    merge: &mut Merge<'_, 'grammar>,
+    table: &LaneTable<'grammar>,
+    traces: &Traces<'grammar>,
+) -> Result<(), QuestionError>
+    requires { IsMerging merge.old }
+{
+    if !start_all(alloc, text, merge, table)? {
+        return Ok(());
     }
-    push_merged(&mut text, &merge.into_states(), &traces, &grammar.terminals)?;
-    Ok(text)
+    if !merge.is_patchable(&traces.actions) {
+        return Err(QuestionError::Argument(2));
+    }
+    Ok(merge.patch_target_starts(alloc, &traces.actions)?)
 }
 
 // Appends the number of states, and the reductions of the state that was traced and of all copies.

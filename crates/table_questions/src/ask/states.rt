@@ -3,43 +3,46 @@ ghost use Rattle.lalrpop_base.specs.Words.{IsWellFormed};
 
 use super::arguments::{method_at, options_from};
 use super::changes::change_states;
+use super::checks::states_by;
 use case_files::question::{Question, QuestionError};
 use case_files::show::states::{push_counts, push_result};
 use case_files::show::words::ShownLookahead;
 use grammar_text::symbols::{is_a_name, name_of};
 use lalrpop_base::lr1_core::collapsible::are_collapsible;
-use lalrpop_base::lr1_core::state::{BuildError, Lr1State, LrResult, TableConstructionError};
+use lalrpop_base::lr1_core::state::LrResult;
 use lalrpop_base::repr::NonterminalString;
 use lalrpop_base::repr::grammar::Grammar;
 use lalrpop_base::repr::terminals::TerminalSet;
 use lalrpop_tables::build::{
-    Method, Options, TablesOrCount, build_lr0_states, build_lr1_states, lr1_states_or_count,
+    TablesOrCount, build_lr0_states, build_lr1_states, lr1_states_or_count,
 };
 use lalrpop_tables::build_lalr::{build_lalr_states, collapse_to_lalr_states};
 use lalrpop_tables::lane_table::build_lane_table_states;
 use lalrpop_tables::lr1::{build_states, build_states_or_count};
 use std::alloc::Global;
 
-/// The result of a question on states. `None` if the call has another name.
+/// Appends the result of a question on states. Returns `false` if the call has another name.
 pub fn answer(
     alloc: Global,
+    text: &mut String,
     question: &Question<'_>,
     grammar: &Grammar,
-) -> Result<Option<String>, QuestionError>
+) -> Result<bool, QuestionError>
     requires { IsWellFormed grammar.now }
 {
     match question.call {
-        "build_lr0_states" => Ok(Some(lr0_states(alloc, question, grammar)?)),
+        "build_lr0_states" => lr0_states(alloc, text, question, grammar)?,
         "build_states" | "build_lr1_states" | "build_lalr_states" => {
-            Ok(Some(lr1_states(alloc, question, grammar)?))
+            lr1_states(alloc, text, question, grammar)?
         }
         "build_states_or_count" | "lr1_states_or_count" => {
-            Ok(Some(states_or_count(alloc, question, grammar)?))
+            states_or_count(alloc, text, question, grammar)?
         }
-        "build_lane_table_states" => Ok(Some(lane_states(alloc, question, grammar)?)),
-        "collapse_to_lalr_states" => Ok(Some(collapsed_states(alloc, question, grammar)?)),
-        _ => Ok(None),
+        "build_lane_table_states" => lane_states(alloc, text, question, grammar)?,
+        "collapse_to_lalr_states" => collapsed_states(alloc, text, question, grammar)?,
+        _ => return Ok(false),
     }
+    Ok(true)
 }
 
 /// The start symbol that the argument with a number names.
@@ -55,127 +58,96 @@ pub fn start_of(
     Ok(name_of(alloc, word)?)
 }
 
-// The LR(0) states of a grammar.
+// Appends the LR(0) states of a grammar.
 fn lr0_states(
     alloc: Global,
+    text: &mut String,
     question: &Question<'_>,
     grammar: &Grammar,
-) -> Result<String, QuestionError>
+) -> Result<(), QuestionError>
     requires { IsWellFormed grammar.now }
 {
     let start = start_of(alloc, question, 1)?;
     let answer = build_lr0_states(alloc, grammar, start);
-    let mut text = String::new(alloc);
-    push_answer(&mut text, question, &answer, &grammar.terminals)?;
-    Ok(text)
+    push_answer(text, question, &answer, &grammar.terminals)
 }
 
-// The LR(1) states of a grammar by a method.
+// Appends the LR(1) states of a grammar by a method.
 fn lr1_states(
     alloc: Global,
+    text: &mut String,
     question: &Question<'_>,
     grammar: &Grammar,
-) -> Result<String, QuestionError>
+) -> Result<(), QuestionError>
     requires { IsWellFormed grammar.now }
 {
     let start = start_of(alloc, question, 1)?;
-    let method = method_at(question, 2)?;
-    let options = options_from(question, 3, method)?;
+    let options = options_from(question, 3, method_at(question, 2)?)?;
     let answer = match question.call {
         "build_lr1_states" => build_lr1_states(alloc, grammar, start, &options),
         "build_lalr_states" => build_lalr_states(alloc, grammar, start, &options),
         _ => build_states(alloc, grammar, start, &options),
     };
-    let mut text = String::new(alloc);
-    push_answer(&mut text, question, &answer, &grammar.terminals)?;
-    Ok(text)
+    push_answer(text, question, &answer, &grammar.terminals)
 }
 
-// The LR(1) states of a grammar by a method, or the number of conflicts.
+// Appends the LR(1) states of a grammar by a method, or the number of conflicts.
 fn states_or_count(
     alloc: Global,
+    text: &mut String,
     question: &Question<'_>,
     grammar: &Grammar,
-) -> Result<String, QuestionError>
+) -> Result<(), QuestionError>
     requires { IsWellFormed grammar.now }
 {
     let start = start_of(alloc, question, 1)?;
-    let method = method_at(question, 2)?;
-    let options = options_from(question, 3, method)?;
+    let options = options_from(question, 3, method_at(question, 2)?)?;
     let answer = match question.call {
         "lr1_states_or_count" => lr1_states_or_count(alloc, grammar, start, &options)?,
         _ => build_states_or_count(alloc, grammar, start, &options)?,
     };
-    let mut text = String::new(alloc);
     match answer {
         TablesOrCount::Tables(states) => {
-            push_answer(&mut text, question, &Ok(states), &grammar.terminals)?;
+            push_answer(text, question, &Ok(states), &grammar.terminals)
         }
-        TablesOrCount::Conflicts(count) => write!(text, "conflicts: {count}\n")?,
+        TablesOrCount::Conflicts(count) => Ok(write!(text, "conflicts: {count}\n")?),
     }
-    Ok(text)
 }
 
-// The lane tables of a grammar.
+// Appends the lane tables of a grammar.
 fn lane_states(
     alloc: Global,
+    text: &mut String,
     question: &Question<'_>,
     grammar: &Grammar,
-) -> Result<String, QuestionError>
+) -> Result<(), QuestionError>
     requires { IsWellFormed grammar.now }
 {
     let start = start_of(alloc, question, 1)?;
     let max_copies = question.number(2)?;
     let answer = build_lane_table_states(alloc, grammar, start, max_copies);
-    let mut text = String::new(alloc);
-    push_answer(&mut text, question, &answer, &grammar.terminals)?;
-    Ok(text)
+    push_answer(text, question, &answer, &grammar.terminals)
 }
 
-/// The canonical states in the order of their construction, also if they have conflicts.
-pub fn canonical_states<'grammar>(
-    alloc: Global,
-    grammar: &'grammar Grammar,
-    start: NonterminalString,
-) -> Result<Vec<Lr1State<'grammar>>, QuestionError>
-    requires { IsWellFormed grammar.now }
-{
-    let options = Options {
-        method: Method::Canonical,
-        ..Options::default()
-    };
-    match build_lr1_states(alloc, grammar, start, &options) {
-        Ok(states) => Ok(states),
-        Err(BuildError::Conflicts(error)) => {
-            let TableConstructionError {
-                states,
-                conflicts: _,
-            } = error;
-            Ok(states)
-        }
-        Err(BuildError::Memory) => Err(QuestionError::Memory),
-    }
-}
-
-// The canonical states of a grammar, collapsed. Arguments can change the states first.
+// Appends the canonical states of a grammar, collapsed. Arguments can change the states first.
 fn collapsed_states(
     alloc: Global,
+    text: &mut String,
     question: &Question<'_>,
     grammar: &Grammar,
-) -> Result<String, QuestionError>
+) -> Result<(), QuestionError>
     requires { IsWellFormed grammar.now }
 {
     let start = start_of(alloc, question, 1)?;
-    let mut states = canonical_states(alloc, grammar, start)?;
+    let mut states = states_by(alloc, grammar, start, "canonical")?;
     let from = if question.is(2, "count") { 3 } else { 2 };
     change_states(alloc, question, from, &mut states, &grammar.terminals)?;
     if !are_collapsible(&states) {
-        return Ok(String::from_str(alloc, "collapsible false\n")?);
+        return Ok(text.push_str("collapsible false\n")?);
     }
-    let mut text = String::from_str(alloc, "collapsible true\n")?;
+    text.push_str("collapsible true\n")?;
     let answer = collapse_to_lalr_states(alloc, states, &grammar.terminals);
-    push_answer(&mut text, question, &answer, &grammar.terminals)?;
-    Ok(text)
+    push_answer(text, question, &answer, &grammar.terminals)
 }
 
 // Appends the result of a construction, or only its counts if the question has the argument

@@ -10,47 +10,76 @@ use std::alloc::Global;
 use std::cmp::Ordering;
 use std::hash::{DefaultHasher, Hash, Hasher};
 
-/// The result of a question on token sets. `None` if the call has another name.
+/// Appends the result of a question on token sets. Returns `false` if the call has another name.
 pub fn answer(
     alloc: Global,
+    text: &mut String,
     question: &Question<'_>,
     grammar: &Grammar,
-) -> Result<Option<String>, QuestionError> {
+) -> Result<bool, QuestionError> {
     match question.call {
-        "token_set" => Ok(Some(token_set(alloc, question, &grammar.terminals)?)),
-        "token_sets" => Ok(Some(token_sets(alloc, question, &grammar.terminals)?)),
-        _ => Ok(None),
+        "token_set" => token_set(alloc, text, question, &grammar.terminals)?,
+        "token_sets" => token_sets(alloc, text, question, &grammar.terminals)?,
+        _ => return Ok(false),
     }
+    Ok(true)
 }
 
-// The results of calls on one set: its tokens and bits, whether it has the tokens after the comma,
-// and its tokens after `take_eof` was called twice. A token after the comma need not be a terminal
-// of the grammar.
+// Appends the results of calls on one set: its tokens and bits, whether it has the tokens after the
+// comma, and its tokens after `take_eof` was called twice.
 fn token_set(
     alloc: Global,
+    text: &mut String,
     question: &Question<'_>,
     terminals: &TerminalSet,
-) -> Result<String, QuestionError> {
+) -> Result<(), QuestionError> {
     let after = question.arguments.len().saturating_add(1);
     let comma = piece_end(question, 1, after);
     let mut set = tokens_between(alloc, question, 1, comma, terminals)?;
-    let mut text = String::new(alloc);
-    push_line(&mut text, "tokens", &set, terminals)?;
+    push_line(text, "tokens", &set, terminals)?;
     write!(text, "bits {set:?}\n")?;
-    for number in comma.saturating_add(1)..after {
+    push_contained(
+        alloc,
+        text,
+        question,
+        comma.saturating_add(1),
+        &set,
+        terminals,
+    )?;
+    push_taken(alloc, text, &mut set, terminals)?;
+    Ok(())
+}
+
+// Appends whether a set has the tokens that the arguments from a number on name. Such a token need
+// not be a terminal of the grammar.
+fn push_contained(
+    alloc: Global,
+    text: &mut String,
+    question: &Question<'_>,
+    from: usize,
+    set: &TokenSet,
+    terminals: &TerminalSet,
+) -> Result<(), QuestionError> {
+    for number in from..question.arguments.len().saturating_add(1) {
         let token = token_at(alloc, question, number)?;
-        write!(
-            text,
-            "contains {token} {}\n",
-            set.contains(&token, terminals)
-        )?;
+        let is_contained = set.contains(&token, terminals);
+        write!(text, "contains {token} {is_contained}\n")?;
     }
+    Ok(())
+}
+
+// Takes `Eof` out of a set twice, and appends what is left.
+fn push_taken(
+    alloc: Global,
+    text: &mut String,
+    set: &mut TokenSet,
+    terminals: &TerminalSet,
+) -> Result<(), OutOfMemory> {
     let first = set.take_eof(terminals);
     let second = set.take_eof(terminals);
     write!(text, "take_eof {first}, then {second}\n")?;
-    push_line(&mut text, "left", &set, terminals)?;
-    push_reserved(alloc, &mut text, &mut set, terminals)?;
-    Ok(text)
+    push_line(text, "left", set, terminals)?;
+    push_reserved(alloc, text, set, terminals)
 }
 
 // Appends whether a set for which room is reserved is equal to a new one with the same tokens, and
@@ -80,28 +109,39 @@ fn hash(set: &TokenSet) -> u64 {
     hasher.finish()
 }
 
-// The results of calls on two sets, and of taking `Eof` out of the first.
+// Appends the results of calls on two sets, and of taking `Eof` out of the first.
 fn token_sets(
     alloc: Global,
+    text: &mut String,
     question: &Question<'_>,
     terminals: &TerminalSet,
-) -> Result<String, QuestionError> {
+) -> Result<(), QuestionError> {
     let after = question.arguments.len().saturating_add(1);
     let comma = piece_end(question, 1, after);
     let mut first = tokens_between(alloc, question, 1, comma, terminals)?;
     let second = tokens_between(alloc, question, comma.saturating_add(1), after, terminals)?;
-    let mut text = String::new(alloc);
-    push_line(&mut text, "first", &first, terminals)?;
-    push_line(&mut text, "second", &second, terminals)?;
-    write!(text, "lengths {} {}\n", first.len(), second.len())?;
-    push_joined(alloc, &mut text, &first, &second, terminals)?;
-    let ended = first.take_eof(terminals);
-    write!(text, "end {ended}, ")?;
-    push_line(&mut text, "without it", &first, terminals)?;
-    Ok(text)
+    Ok(push_both(alloc, text, &mut first, &second, terminals)?)
 }
 
-// Appends the union, the intersection and the order of two sets, and whether they are disjoint.
+// Appends the results of calls on two sets.
+fn push_both(
+    alloc: Global,
+    text: &mut String,
+    first: &mut TokenSet,
+    second: &TokenSet,
+    terminals: &TerminalSet,
+) -> Result<(), OutOfMemory> {
+    push_line(text, "first", first, terminals)?;
+    push_line(text, "second", second, terminals)?;
+    write!(text, "lengths {} {}\n", first.len(), second.len())?;
+    push_joined(alloc, text, first, second, terminals)?;
+    push_compared(text, first, second)?;
+    let ended = first.take_eof(terminals);
+    write!(text, "end {ended}, ")?;
+    push_line(text, "without it", first, terminals)
+}
+
+// Appends the union and the intersection of two sets.
 fn push_joined(
     alloc: Global,
     text: &mut String,
@@ -115,7 +155,15 @@ fn push_joined(
     push_tokens(text, &union, terminals)?;
     write!(text, ", grew {grew}\n")?;
     let common = first.intersection(alloc, second)?;
-    push_line(text, "intersection", &common, terminals)?;
+    push_line(text, "intersection", &common, terminals)
+}
+
+// Appends whether two sets are disjoint, and their order.
+fn push_compared(
+    text: &mut String,
+    first: &TokenSet,
+    second: &TokenSet,
+) -> Result<(), OutOfMemory> {
     write!(text, "is_disjoint {}\n", first.is_disjoint(second))?;
     write!(text, "is_intersecting {}\n", first.is_intersecting(second))?;
     let order = match first.cmp(second) {

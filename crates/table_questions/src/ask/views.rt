@@ -3,52 +3,48 @@
 ghost use Rattle.lalrpop_base.specs.Words.{IsWellFormed};
 
 use super::checks::states_by;
+use super::graphs::lr0_states;
 use super::states::start_of;
 use case_files::question::{Question, QuestionError};
 use case_files::show::words::push_list;
-use lalrpop_base::lr1_core::state::{BuildError, State};
+use lalrpop_base::lr1_core::state::State;
 use lalrpop_base::repr::grammar::Grammar;
-use lalrpop_tables::build::build_lr0_states;
 use std::alloc::Global;
 
-/// The result of a question on views. `None` if the call has another name.
+/// Appends the views of states: of the canonical states if the second argument is `canonical`, and
+/// else of the LR(0) states. Returns `false` if the call has another name.
 pub fn answer(
     alloc: Global,
+    text: &mut String,
     question: &Question<'_>,
     grammar: &Grammar,
-) -> Result<Option<String>, QuestionError>
+) -> Result<bool, QuestionError>
     requires { IsWellFormed grammar.now }
 {
-    match question.call {
-        "views" => Ok(Some(views(alloc, question, grammar)?)),
-        _ => Ok(None),
+    if question.call != "views" {
+        return Ok(false);
     }
-}
-
-// The views of the canonical states if the second argument is `canonical`, and else of the LR(0)
-// states.
-fn views(alloc: Global, question: &Question<'_>, grammar: &Grammar) -> Result<String, QuestionError>
-    requires { IsWellFormed grammar.now }
-{
     let start = start_of(alloc, question, 1)?;
     if question.is(2, "canonical") {
         let states = states_by(alloc, grammar, start, "canonical")?;
-        return views_of(alloc, &states);
+        push_all(alloc, text, &states)?;
+    } else {
+        let states = lr0_states(alloc, grammar, start)?;
+        push_all(alloc, text, &states)?;
     }
-    match build_lr0_states(alloc, grammar, start) {
-        Ok(states) => views_of(alloc, &states),
-        Err(BuildError::Conflicts(error)) => views_of(alloc, &error.states),
-        Err(BuildError::Memory) => Err(QuestionError::Memory),
-    }
+    Ok(true)
 }
 
-// The views of states.
-fn views_of<L>(alloc: Global, states: &[State<'_, L>]) -> Result<String, QuestionError> {
-    let mut text = String::new(alloc);
+// Appends the views of states.
+fn push_all<L>(
+    alloc: Global,
+    text: &mut String,
+    states: &[State<'_, L>],
+) -> Result<(), QuestionError> {
     for state in states {
-        push_views(alloc, &mut text, state)?;
+        push_views(alloc, text, state)?;
     }
-    Ok(text)
+    Ok(())
 }
 
 // Appends the views of a state.
