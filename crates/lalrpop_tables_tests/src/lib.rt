@@ -7,4 +7,6 @@ mod allocation_failures;
 #[cfg(test)]
 mod conditions;
 #[cfg(test)]
+mod grammars;
+#[cfg(test)]
 mod graphs;

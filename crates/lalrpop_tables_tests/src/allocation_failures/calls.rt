@@ -6,7 +6,7 @@ use grammar_text::symbols::name_of;
 use lalrpop_base::first::FirstSets;
 use lalrpop_base::lookahead::token::Token;
 use lalrpop_base::lookahead::token_set::TokenSet;
-use lalrpop_base::lr1_core::state::{BuildError, Lr1State, LrResult, StateIndex};
+use lalrpop_base::lr1_core::state::{BuildError, Lr1Result, Lr1State, LrResult, StateIndex};
 use lalrpop_base::memory::OutOfMemory;
 use lalrpop_base::repr::NonterminalString;
 use lalrpop_base::repr::grammar::{Grammar, is_well_formed};
@@ -67,33 +67,41 @@ impl Attempt for Tokens<'_, '_> {
     }
 }
 
-// The grammar has five terminals. `TokenSet::all` has `Eof`, too.
+// The calls, each with the number of tokens. The grammar has five terminals. `TokenSet::all` has
+// `Eof`, too.
+const CALLS: [(MakesTokens, usize); 7] = [
+    (MakesTokens::All, 6),
+    (MakesTokens::Eof, 1),
+    (MakesTokens::Of, 1),
+    (MakesTokens::Intersection, 1),
+    (MakesTokens::Copy, 1),
+    (MakesTokens::First0, 1),
+    (MakesTokens::First1, 1),
+];
+
+// Tries each call.
+fn each_that_makes_tokens(alloc: Global, made: &mut Tokens<'_, '_>) -> Result<(), Fail> {
+    for (call, expected) in CALLS {
+        made.call = call;
+        made.expected = expected;
+        each_growth_refused(alloc, made)?;
+    }
+    Ok(())
+}
+
 #[test]
 fn calls_that_make_tokens(rt: HostRuntime) -> Result<(), Fail> {
     let alloc = rt.alloc();
     let grammar = grammar(alloc, CROSSED)?;
     let first_sets = FirstSets::new(alloc, &grammar)?;
-    let tokens = only(alloc, "d", &grammar.terminals)?;
-    let calls = [
-        (MakesTokens::All, 6),
-        (MakesTokens::Eof, 1),
-        (MakesTokens::Of, 1),
-        (MakesTokens::Intersection, 1),
-        (MakesTokens::Copy, 1),
-        (MakesTokens::First0, 1),
-        (MakesTokens::First1, 1),
-    ];
-    for (call, expected) in calls {
-        let mut made = Tokens {
-            call,
-            grammar: &grammar,
-            first_sets: &first_sets,
-            tokens: &tokens,
-            expected,
-        };
-        each_growth_refused(alloc, &mut made)?;
-    }
-    Ok(())
+    let mut made = Tokens {
+        call: MakesTokens::All,
+        grammar: &grammar,
+        first_sets: &first_sets,
+        tokens: &only(alloc, "d", &grammar.terminals)?,
+        expected: 0,
+    };
+    each_that_makes_tokens(alloc, &mut made)
 }
 
 // A call that makes states, or that goes over all of them.
@@ -126,34 +134,35 @@ fn are_so_many<L>(made: &LrResult<'_, L>, count: usize) -> Option<bool> {
     }
 }
 
-impl States<'_, '_> {
-    // Makes states of a well-formed grammar, or goes over states that are there.
-    fn made(&self, alloc: Global, start: NonterminalString) -> Option<bool>
+impl<'g> States<'_, 'g> {
+    // The LR(1) states of a well-formed grammar by the call.
+    fn lr1_states(&self, alloc: Global, start: NonterminalString) -> Lr1Result<'g>
         requires { IsWellFormed self.now.grammar.now }
     {
         let (grammar, options) = (self.grammar, Options::default());
         match self.call {
-            GoesOverStates::Lr0 => are_so_many(&build_lr0_states(alloc, grammar, start), 12),
-            GoesOverStates::Lr1 => {
-                are_so_many(&build_lr1_states(alloc, grammar, start, &options), 13)
-            }
-            GoesOverStates::Lalr => {
-                are_so_many(&build_lalr_states(alloc, grammar, start, &options), 13)
-            }
-            GoesOverStates::Lanes => {
-                are_so_many(&build_lane_table_states(alloc, grammar, start, 1), 13)
-            }
-            GoesOverStates::Numbered => {
-                are_so_many(&build_states(alloc, grammar, start, &options), 13)
-            }
+            GoesOverStates::Lr1 => build_lr1_states(alloc, grammar, start, &options),
+            GoesOverStates::Lalr => build_lalr_states(alloc, grammar, start, &options),
+            GoesOverStates::Lanes => build_lane_table_states(alloc, grammar, start, 1),
+            _ => build_states(alloc, grammar, start, &options),
+        }
+    }
+
+    // Makes states of a well-formed grammar, or goes over states that are there.
+    fn made(&self, alloc: Global, start: NonterminalString) -> Option<bool>
+        requires { IsWellFormed self.now.grammar.now }
+    {
+        match self.call {
+            GoesOverStates::Lr0 => are_so_many(&build_lr0_states(alloc, self.grammar, start), 12),
             GoesOverStates::Graph => match StateGraph::new(alloc, self.states) {
                 Ok(graph) => Some(graph.successors(StateIndex(0)).count() == 2),
                 Err(_) => None,
             },
-            GoesOverStates::FirstSets => match FirstSets::new(alloc, grammar) {
+            GoesOverStates::FirstSets => match FirstSets::new(alloc, self.grammar) {
                 Ok(sets) => Some(!sets.is_nullable(self.start)),
                 Err(_) => None,
             },
+            _ => are_so_many(&self.lr1_states(alloc, start), 13),
         }
     }
 }
@@ -170,31 +179,37 @@ impl Attempt for States<'_, '_> {
     }
 }
 
-// A copy of the start symbol shares its text and takes no memory. So each refused allocation is one
-// of the call.
+const CALLS_OVER_STATES: [GoesOverStates; 7] = [
+    GoesOverStates::Lr0,
+    GoesOverStates::Lr1,
+    GoesOverStates::Lalr,
+    GoesOverStates::Lanes,
+    GoesOverStates::Numbered,
+    GoesOverStates::Graph,
+    GoesOverStates::FirstSets,
+];
+
+// Tries each call. A copy of the start symbol shares its text and takes no memory. So each refused
+// allocation is one of the call.
+fn each_that_goes_over_states(alloc: Global, made: &mut States<'_, '_>) -> Result<(), Fail> {
+    for call in CALLS_OVER_STATES {
+        made.call = call;
+        each_growth_refused(alloc, made)?;
+    }
+    Ok(())
+}
+
 #[test]
 fn calls_that_go_over_states(rt: HostRuntime) -> Result<(), Fail> {
     let alloc = rt.alloc();
     let grammar = grammar(alloc, CROSSED)?;
     let start = name_of(alloc, "S")?;
     let states = build_lr1_states(alloc, &grammar, start, &Options::default())?;
-    let calls = [
-        GoesOverStates::Lr0,
-        GoesOverStates::Lr1,
-        GoesOverStates::Lalr,
-        GoesOverStates::Lanes,
-        GoesOverStates::Numbered,
-        GoesOverStates::Graph,
-        GoesOverStates::FirstSets,
-    ];
-    for call in calls {
-        let mut made = States {
-            call,
-            grammar: &grammar,
-            start: &name_of(alloc, "S")?,
-            states: &states,
-        };
-        each_growth_refused(alloc, &mut made)?;
-    }
-    Ok(())
+    let mut made = States {
+        call: GoesOverStates::Lr0,
+        grammar: &grammar,
+        start: &name_of(alloc, "S")?,
+        states: &states,
+    };
+    each_that_goes_over_states(alloc, &mut made)
 }
