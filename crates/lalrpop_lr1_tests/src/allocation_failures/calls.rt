@@ -1,5 +1,7 @@
 // Calls that make a new value, some from a value that they take. Each attempt counts the allocation
 // failures that the call itself reports, without those of making its arguments.
+ghost use Rattle.lalrpop_base.specs.Words.{IsWellFormed};
+
 use grammar_text::symbols::name_of;
 use lalrpop_base::first::FirstSets;
 use lalrpop_base::lr1_core::collapsible::are_collapsible;
@@ -16,6 +18,7 @@ use lalrpop_tables::build::{Method, Options, build_lr1_states};
 use lalrpop_tables::build_lalr::collapse_to_lalr_states;
 use refused_growth::attempts::Attempt;
 use std::alloc::Global;
+use std::process::Abort;
 use std::test::Fail;
 use test_fixtures::growths::each_growth_refused;
 use test_fixtures::texts::{CROSSED, first_production, grammar, literal};
@@ -59,7 +62,10 @@ impl Whole<'_> {
 
     // Whether the collapse of canonical states gives 12 states with conflicts. `None` after an
     // allocation failure.
-    fn collapsed(&mut self, alloc: Global, start: NonterminalString) -> Option<bool> {
+    fn collapsed(&mut self, alloc: Global) -> Option<bool> {
+        let Ok(start) = self.start.clone(alloc) else {
+            return None;
+        };
         let mut options = Options::default();
         options.method = Method::Canonical;
         if !is_well_formed(self.grammar) {
@@ -77,16 +83,23 @@ impl Whole<'_> {
             Err(BuildError::Memory) => self.made::<()>(Err(NormError::Memory)),
         }
     }
-}
 
-impl Attempt for Whole<'_> {
-    fn attempt(&mut self, alloc: Global) -> Option<bool> {
-        let (Ok(copy), Ok(start)) = (self.grammar.clone(alloc), self.start.clone(alloc)) else {
+    // Whether a new start symbol is added to a copy of the grammar. `None` after an allocation
+    // failure.
+    fn augmented(&mut self, alloc: Global, copy: Grammar) -> Option<bool>
+        requires { IsWellFormed copy }
+    {
+        let Ok(start) = self.start.clone(alloc) else {
             return None;
         };
-        if !is_well_formed(&copy) {
-            return Some(false);
-        }
+        let augmented = augment(alloc, copy, start);
+        self.made(augmented)
+    }
+
+    // The outcome of the call, which takes a copy of the grammar.
+    fn tried(&mut self, alloc: Global, copy: Grammar) -> Option<bool>
+        requires { IsWellFormed copy }
+    {
         match self.call {
             GoesOver::Order => {
                 let order = inline_order(alloc, &copy);
@@ -96,34 +109,48 @@ impl Attempt for Whole<'_> {
                 let inlined = inline(alloc, copy);
                 self.made(inlined)
             }
-            GoesOver::Augment => {
-                let augmented = augment(alloc, copy, start);
-                self.made(augmented)
-            }
-            GoesOver::Collapse => self.collapsed(alloc, start),
+            GoesOver::Augment => self.augmented(alloc, copy),
+            GoesOver::Collapse => self.collapsed(alloc),
         }
     }
 }
 
+impl Attempt for Whole<'_> {
+    fn attempt(&mut self, alloc: Global) -> Option<bool> {
+        let Ok(copy) = self.grammar.clone(alloc) else {
+            return None;
+        };
+        if !is_well_formed(&copy) {
+            return Some(false);
+        }
+        self.tried(alloc, copy)
+    }
+}
+
+// The number of allocation failures that a call reports for the grammar of a text.
+fn refusals_of(alloc: Global, call: GoesOver, text: &str) -> Result<usize, Fail> {
+    let mut whole = Whole {
+        call,
+        grammar: &grammar(alloc, text)?,
+        start: &name_of(alloc, "S")?,
+        refusals: 0,
+    };
+    each_growth_refused(alloc, &mut whole)?;
+    Ok(whole.refusals)
+}
+
 // The states of `CROSSED` have conflicts after those with the same dotted productions are merged.
+const CALLS: [(GoesOver, &str); 4] = [
+    (GoesOver::Order, MARKED),
+    (GoesOver::Inline, MARKED),
+    (GoesOver::Augment, MARKED),
+    (GoesOver::Collapse, CROSSED),
+];
+
 #[test]
 fn calls_that_go_over_a_whole(rt: HostRuntime) -> Result<(), Fail> {
-    let alloc = rt.alloc();
-    let calls = [
-        (GoesOver::Order, MARKED),
-        (GoesOver::Inline, MARKED),
-        (GoesOver::Augment, MARKED),
-        (GoesOver::Collapse, CROSSED),
-    ];
-    for (call, text) in calls {
-        let mut whole = Whole {
-            call,
-            grammar: &grammar(alloc, text)?,
-            start: &name_of(alloc, "S")?,
-            refusals: 0,
-        };
-        each_growth_refused(alloc, &mut whole)?;
-        assert!(rt; whole.refusals > 0);
+    for (call, text) in CALLS {
+        assert!(rt; refusals_of(rt.alloc(), call, text)? > 0);
     }
     Ok(())
 }
@@ -251,6 +278,62 @@ fn small_tree(alloc: Global) -> Result<ParseTree, Fail> {
     Ok(ParseTree::Nonterminal(name_of(alloc, "A")?, leaves))
 }
 
+const CALLS_OF_TRACES: [Traces; 7] = [
+    Traces::Tracer,
+    Traces::Shift,
+    Traces::Reduce,
+    Traces::First0,
+    Traces::Example,
+    Traces::CopyOfExample,
+    Traces::CopyOfTree,
+];
+
+// Tries each call.
+fn each_trace(rt: &impl Abort, alloc: Global, traced: &mut Traced<'_, '_>) -> Result<(), Fail> {
+    for call in CALLS_OF_TRACES {
+        traced.call = call;
+        traced.refusals = 0;
+        each_growth_refused(alloc, traced)?;
+        assert!(rt; traced.refusals > 0);
+    }
+    Ok(())
+}
+
+// The graph of the traces of a state that has the item at the end of a production.
+fn graph_of<'g>(
+    alloc: Global,
+    sets: &FirstSets<'g>,
+    states: &[Lr1State<'g>],
+    production: &'g Production,
+) -> Result<TraceGraph<'g>, OutOfMemory> {
+    let tracer = Tracer::new(alloc, sets, states)?;
+    tracer.backtrace_reduce(alloc, StateIndex(3), end_of(production))
+}
+
+// Tries each call on states of `NESTED`.
+fn each_trace_of<'g>(
+    rt: &impl Abort,
+    alloc: Global,
+    grammar: &'g Grammar,
+    sets: &FirstSets<'g>,
+    states: &[Lr1State<'g>],
+) -> Result<(), Fail> {
+    let production = first_production(alloc, grammar, "A")?;
+    let graph = graph_of(alloc, sets, states, production)?;
+    let mut traced = Traced {
+        call: Traces::Tracer,
+        grammar,
+        sets,
+        states,
+        graph: &graph,
+        production,
+        example: &first_example(alloc, &graph, production)?,
+        tree: &small_tree(alloc)?,
+        refusals: 0,
+    };
+    each_trace(rt, alloc, &mut traced)
+}
+
 #[test]
 fn calls_of_traces(rt: HostRuntime) -> Result<(), Fail> {
     let alloc = rt.alloc();
@@ -260,34 +343,5 @@ fn calls_of_traces(rt: HostRuntime) -> Result<(), Fail> {
     let Ok(states) = build_lr1_states(alloc, &grammar, start, &Options::default()) else {
         return Err(Fail::from("no tables"));
     };
-    let production = first_production(alloc, &grammar, "A")?;
-    let tracer = Tracer::new(alloc, &sets, &states)?;
-    let graph = tracer.backtrace_reduce(alloc, StateIndex(3), end_of(production))?;
-    let example = first_example(alloc, &graph, production)?;
-    let tree = small_tree(alloc)?;
-    let calls = [
-        Traces::Tracer,
-        Traces::Shift,
-        Traces::Reduce,
-        Traces::First0,
-        Traces::Example,
-        Traces::CopyOfExample,
-        Traces::CopyOfTree,
-    ];
-    for call in calls {
-        let mut traced = Traced {
-            call,
-            grammar: &grammar,
-            sets: &sets,
-            states: &states,
-            graph: &graph,
-            production,
-            example: &example,
-            tree: &tree,
-            refusals: 0,
-        };
-        each_growth_refused(alloc, &mut traced)?;
-        assert!(rt; traced.refusals > 0);
-    }
-    Ok(())
+    each_trace_of(&rt, alloc, &grammar, &sets, &states)
 }

@@ -4,9 +4,8 @@ use grammar_text::builder_error::BuilderError;
 use grammar_text::symbols::name_of;
 use lalrpop_base::lr1_core::coherent::are_coherent;
 use lalrpop_base::lr1_core::state::Lr1State;
-use lalrpop_base::repr::grammar::Grammar;
+use lalrpop_base::repr::TerminalString;
 use lalrpop_base::repr::terminals::TerminalSet;
-use lalrpop_base::repr::{NonterminalString, TerminalString};
 use lalrpop_lr1::interpret::{InterpretError, ParseTree, interpret};
 use lalrpop_tables::build::build_lr1_states;
 use lalrpop_tables::build::options::Options;
@@ -14,7 +13,7 @@ use refused_growth::attempts::Attempt;
 use std::alloc::Global;
 use std::test::Fail;
 use test_fixtures::growths::each_growth_refused;
-use test_fixtures::texts::{ONE, SUMS, grammar, literal};
+use test_fixtures::texts::{SUMS, grammar, literal};
 
 // A builder to which a production is added.
 #[derive(Drop)]
@@ -40,10 +39,25 @@ fn a_given_production(rt: HostRuntime) -> Result<(), Fail> {
     let mut given = Given { builder };
     each_growth_refused(alloc, &mut given)?;
     let Given { builder } = given;
-    let grammar = builder.finish()?;
-    let productions = grammar.productions_for(&name_of(alloc, "A")?);
-    assert_eq!(rt; (productions.len(), grammar.action_fn_defns.len()), (1, 1));
+    assert_eq!(rt; counts_of(alloc, builder)?, Some((1, 0, 1)));
     Ok(())
+}
+
+// The numbers of productions and of marks of A, and of actions, in the grammar of a builder.
+fn counts_of(
+    alloc: Global,
+    builder: GrammarBuilder,
+) -> Result<Option<(usize, usize, usize)>, Fail> {
+    let grammar = builder.finish()?;
+    let a = name_of(alloc, "A")?;
+    match grammar.nonterminals.get(&a) {
+        Some(entry) => Ok(Some((
+            entry.productions.len(),
+            entry.attributes.len(),
+            grammar.action_fn_defns.len(),
+        ))),
+        None => Ok(None),
+    }
 }
 
 // A builder in which a nonterminal is marked.
@@ -62,10 +76,14 @@ impl Attempt for Marked {
     }
 }
 
-// The numbers of productions and of marks of a nonterminal.
-fn entry_of(grammar: &Grammar, name: &NonterminalString) -> Option<(usize, usize)> {
-    let entry = grammar.nonterminals.get(name)?;
-    Some((entry.productions.len(), entry.attributes.len()))
+// Adds a production for each word. Then it marks A over and over, and adds one production more.
+fn mark(alloc: Global, marked: &mut Marked, words: &[&str]) -> Result<(), Fail> {
+    for word in words {
+        marked.builder.production("A", &[*word])?;
+    }
+    each_growth_refused(alloc, marked)?;
+    marked.builder.production("A", &["\"y\""])?;
+    Ok(())
 }
 
 // After all turns the builder has the mark once, and the lines from before. These are none, or four
@@ -74,17 +92,12 @@ fn entry_of(grammar: &Grammar, name: &NonterminalString) -> Option<(usize, usize
 fn a_marked_name(rt: HostRuntime) -> Result<(), Fail> {
     let alloc = rt.alloc();
     for words in [&[][..], &["\"u\"", "\"v\"", "\"w\"", "\"x\""]] {
-        let mut builder = GrammarBuilder::new(alloc);
-        for word in words {
-            builder.production("A", &[*word])?;
-        }
+        let builder = GrammarBuilder::new(alloc);
         let mut marked = Marked { builder };
-        each_growth_refused(alloc, &mut marked)?;
-        marked.builder.production("A", &["\"y\""])?;
+        mark(alloc, &mut marked, words)?;
         let Marked { builder } = marked;
-        let grammar = builder.finish()?;
-        let entry = entry_of(&grammar, &name_of(alloc, "A")?);
-        assert_eq!(rt; entry, Some((words.len() + 1, 1)));
+        let count = words.len() + 1;
+        assert_eq!(rt; counts_of(alloc, builder)?, Some((count, 1, count)));
     }
     Ok(())
 }
