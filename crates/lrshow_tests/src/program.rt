@@ -8,6 +8,7 @@ use lrshow_run::run::run;
 use std::alloc::{AllocError, Global};
 use std::io;
 use std::io::{ErrorKind, Read};
+use std::process::Abort;
 use std::test::Fail;
 
 /// A grammar with tables.
@@ -77,17 +78,44 @@ fn ran_by(
     Ok((out, err, status))
 }
 
-#[test]
-fn data_and_graph(rt: HostRuntime) -> Result<(), Fail> {
-    let alloc = rt.alloc();
-    let canonical = Method::Canonical;
-    for (line, expected) in [("f S json", DATA), ("f S dot --around 1", GRAPH)] {
-        let (wrote, said, status) = ran_by(alloc, canonical, Some(ONE_TERMINAL.as_bytes()), line)?;
-        assert_eq!(rt; wrote.as_slice(), expected.as_bytes());
-        assert_eq!(rt; said.len(), 0);
-        assert_eq!(rt; status, 0);
+/// Fails unless a run by a method on a file, or without one, has two outputs and an exit status.
+fn expect(
+    rt: &impl Abort,
+    alloc: Global,
+    method: Method,
+    file: Option<&[u8]>,
+    line: &str,
+    expected: (&str, &str, u8),
+) -> Result<(), Fail> {
+    let (out, err, status) = expected;
+    let (wrote, said, got) = ran_by(alloc, method, file, line)?;
+    assert_eq!(rt; wrote.as_slice(), out.as_bytes(), "{line}");
+    assert_eq!(rt; said.as_slice(), err.as_bytes(), "{line}");
+    assert_eq!(rt; got, status, "{line}");
+    Ok(())
+}
+
+/// The text of the file, the arguments, the standard output, the standard error, and the exit
+/// status.
+type Row = (&'static str, &'static str, &'static str, &'static str, u8);
+
+/// Fails unless each row has the expected result by a method.
+fn expect_all(rt: &impl Abort, alloc: Global, method: Method, rows: &[Row]) -> Result<(), Fail> {
+    for (text, line, out, err, status) in rows {
+        let file = Some(text.as_bytes());
+        expect(rt, alloc, method, file, *line, (*out, *err, *status))?;
     }
     Ok(())
+}
+
+const DATA_AND_GRAPH: [Row; 2] = [
+    (ONE_TERMINAL, "f S json", DATA, "", 0),
+    (ONE_TERMINAL, "f S dot --around 1", GRAPH, "", 0),
+];
+
+#[test]
+fn data_and_graph(rt: HostRuntime) -> Result<(), Fail> {
+    expect_all(&rt, rt.alloc(), Method::Canonical, &DATA_AND_GRAPH)
 }
 
 /// A grammar whose graph has so many edges, all from state 0.
@@ -122,12 +150,15 @@ fn large_graphs(rt: HostRuntime) -> Result<(), Fail> {
 fn files_that_cannot_be_read(rt: HostRuntime) -> Result<(), Fail> {
     let alloc = rt.alloc();
     let no_text: &[u8] = &[83, 32, 61, 32, 34, 255, 34];
+    let expected = ("", "cannot read a/f\n", 2);
     for file in [None, Some(no_text)] {
-        let (wrote, said, got) = ran_by(alloc, Method::Lane, file, "a/f S html")?;
-        assert_eq!(rt; wrote.len(), 0);
-        assert_eq!(rt; said.as_slice(), b"cannot read a/f\n".as_slice());
-        assert_eq!(rt; got, 2);
+        expect(&rt, alloc, Method::Lane, file, "a/f S html", expected)?;
     }
+    broken_file(&rt, alloc)
+}
+
+// Tries a file of which no read succeeds.
+fn broken_file(rt: &impl Abort, alloc: Global) -> Result<(), Fail> {
     let words = words_of(alloc, "a/f S json")?;
     let mut out = Vec::new(alloc);
     let mut err = Vec::new(alloc);
@@ -146,57 +177,56 @@ fn files_that_cannot_be_read(rt: HostRuntime) -> Result<(), Fail> {
 }
 
 // Each line of a check has its place. The status is different for errors, for doubts and for neither.
+// The last check is written as data.
+const CHECKS: [Row; 7] = [
+    (ONE_TERMINAL, "f S check", "", "", 0),
+    (
+        "S = A |\nT : S\n",
+        "f S check",
+        "f:1:7: error: `|` is neither a name nor a literal; write the alternative as a production on a line of its own\nf:2:3: error: `:` is in the place of \"=\"; write \"=\" between the left side and the right side\n",
+        "",
+        2,
+    ),
+    (
+        CONFLICT,
+        "f S check",
+        "f:3:5: warning: the right side is that of line 2; leave one of the two out\nf:2:1: warning: reduce/reduce conflict on \"p\" in state 2: reduce N = \"n\", or reduce N = \"n\"; see `lrshow FILE START conflicts`\n",
+        "",
+        1,
+    ),
+    (
+        "S = E\nE = E O E\ninline O\nO = \"+\"\nE = \"n\"\n",
+        "f S check",
+        "f:2:1: warning: shift/reduce conflict on \"+\" in state 4: reduce E = E \"+\" E, or shift by E = E (*) \"+\" E; see `lrshow FILE START conflicts`\n",
+        "",
+        1,
+    ),
+    (
+        "T = \"t\"\n",
+        "f S check",
+        "f:1:1: warning: `S` has no production; name another start symbol\n",
+        "",
+        1,
+    ),
+    (
+        "S = I\ninline I\nI = I \"x\"\nI =\n",
+        "f S check",
+        "f:2:8: error: `I` would have to be inlined into itself; leave a mark out\n",
+        "",
+        2,
+    ),
+    (
+        "S = A\n",
+        "f S check --json",
+        "[{\"severity\":\"warning\",\"line\":1,\"column\":5,\"start\":4,\"end\":5,\"message\":\"`A` has no production\",\"hint\":\"write one, or mend the name\"},\n{\"severity\":\"warning\",\"line\":1,\"column\":1,\"start\":0,\"end\":1,\"message\":\"`S` derives no list of terminals\",\"hint\":\"write a production without it\"}]\n",
+        "",
+        1,
+    ),
+];
+
 #[test]
 fn checks(rt: HostRuntime) -> Result<(), Fail> {
-    let alloc = rt.alloc();
-    for (text, expected, status) in [
-        (ONE_TERMINAL, "", 0),
-        (
-            "S = A |\nT : S\n",
-            "f:1:7: error: `|` is neither a name nor a literal; write the alternative as a production on a line of its own\nf:2:3: error: `:` is in the place of \"=\"; write \"=\" between the left side and the right side\n",
-            2,
-        ),
-        (
-            CONFLICT,
-            "f:3:5: warning: the right side is that of line 2; leave one of the two out\nf:2:1: warning: reduce/reduce conflict on \"p\" in state 2: reduce N = \"n\", or reduce N = \"n\"; see `lrshow FILE START conflicts`\n",
-            1,
-        ),
-        (
-            "S = E\nE = E O E\ninline O\nO = \"+\"\nE = \"n\"\n",
-            "f:2:1: warning: shift/reduce conflict on \"+\" in state 4: reduce E = E \"+\" E, or shift by E = E (*) \"+\" E; see `lrshow FILE START conflicts`\n",
-            1,
-        ),
-        (
-            "T = \"t\"\n",
-            "f:1:1: warning: `S` has no production; name another start symbol\n",
-            1,
-        ),
-        (
-            "S = I\ninline I\nI = I \"x\"\nI =\n",
-            "f:2:8: error: `I` would have to be inlined into itself; leave a mark out\n",
-            2,
-        ),
-    ] {
-        let (wrote, said, got) = ran_by(alloc, Method::Lane, Some(text.as_bytes()), "f S check")?;
-        assert_eq!(rt; wrote.as_slice(), expected.as_bytes());
-        assert_eq!(rt; said.len(), 0);
-        assert_eq!(rt; got, status);
-    }
-    Ok(())
-}
-
-// A check as data.
-#[test]
-fn check_as_data(rt: HostRuntime) -> Result<(), Fail> {
-    let alloc = rt.alloc();
-    let text: &[u8] = b"S = A\n";
-    let (wrote, said, status) = ran_by(alloc, Method::Lane, Some(text), "f S check --json")?;
-    let expected =
-        "[{\"severity\":\"warning\",\"line\":1,\"column\":5,\"start\":4,\"end\":5,\"message\":\"`A` has no production\",\"hint\":\"write one, or mend the name\"},\n{\"severity\":\"warning\",\"line\":1,\"column\":1,\"start\":0,\"end\":1,\"message\":\"`S` derives no list of terminals\",\"hint\":\"write a production without it\"}]\n";
-    assert_eq!(rt; wrote.as_slice(), expected.as_bytes());
-    assert_eq!(rt; said.len(), 0);
-    assert_eq!(rt; status, 1);
-    Ok(())
+    expect_all(&rt, rt.alloc(), Method::Lane, &CHECKS)
 }
 
 /// The parse of `ONE_TERMINAL` as a graph.
@@ -209,34 +239,29 @@ const TREE: &str = "digraph tree {
 ";
 
 // Parses, drawn, refused and cut short by a conflict.
+const TREES: [Row; 5] = [
+    (ONE_TERMINAL, "f S tree x", "S\n  \"x\"\n", "", 0),
+    (ONE_TERMINAL, "f S tree --dot x", TREE, "", 0),
+    (
+        ONE_TERMINAL,
+        "f S tree x x",
+        "",
+        "token 2, \"x\", is wrong; expected: Eof\n",
+        1,
+    ),
+    (
+        ONE_TERMINAL,
+        "f S tree",
+        "",
+        "the input ends too early; expected: \"x\"\n",
+        1,
+    ),
+    (CONFLICT, "f S tree n p", "", "conflicts: 1\n", 1),
+];
+
 #[test]
 fn trees(rt: HostRuntime) -> Result<(), Fail> {
-    let alloc = rt.alloc();
-    for (text, line, expected, remark, status) in [
-        (ONE_TERMINAL, "f S tree x", "S\n  \"x\"\n", "", 0),
-        (ONE_TERMINAL, "f S tree --dot x", TREE, "", 0),
-        (
-            ONE_TERMINAL,
-            "f S tree x x",
-            "",
-            "token 2, \"x\", is wrong; expected: Eof\n",
-            1,
-        ),
-        (
-            ONE_TERMINAL,
-            "f S tree",
-            "",
-            "the input ends too early; expected: \"x\"\n",
-            1,
-        ),
-        (CONFLICT, "f S tree n p", "", "conflicts: 1\n", 1),
-    ] {
-        let (wrote, said, got) = ran_by(alloc, Method::Lane, Some(text.as_bytes()), line)?;
-        assert_eq!(rt; wrote.as_slice(), expected.as_bytes());
-        assert_eq!(rt; said.as_slice(), remark.as_bytes());
-        assert_eq!(rt; got, status);
-    }
-    Ok(())
+    expect_all(&rt, rt.alloc(), Method::Lane, &TREES)
 }
 
 /// A graph without a state.
@@ -252,53 +277,48 @@ const CONTROL: &str = "S = \"\u{1b}\"";
 
 // Start symbols without a production, grammars without a conflict, and a control character, which is
 // shown by its picture.
+const MESSAGES: [Row; 8] = [
+    (
+        ONE_TERMINAL,
+        "f T conflicts",
+        "",
+        "`T` has no production\n",
+        2,
+    ),
+    (ONE_TERMINAL, "f T tree x", "", "`T` has no production\n", 2),
+    (
+        "Sum = \"x\"",
+        "f Su tree x",
+        "",
+        "`Su` has no production; perhaps `Sum` is meant\n",
+        2,
+    ),
+    (
+        ONE_TERMINAL,
+        "f S conflicts",
+        "0 conflicts of 0 causes\n",
+        "",
+        0,
+    ),
+    (
+        ONE_TERMINAL,
+        "f S dot --conflicts",
+        NO_GRAPH,
+        "no conflicts\n",
+        0,
+    ),
+    (ONE_TERMINAL, "f S dot --around 1 --depth 1", GRAPH, "", 0),
+    (CONTROL, "f S tree \u{1b}", "S\n  \"\u{241b}\"\n", "", 0),
+    (
+        CONTROL,
+        "f S tree x",
+        "",
+        "token 1, \"x\", is wrong; expected: \"\u{241b}\"\n",
+        1,
+    ),
+];
+
 #[test]
 fn messages(rt: HostRuntime) -> Result<(), Fail> {
-    let alloc = rt.alloc();
-    for (text, line, expected, remark, status) in [
-        (
-            ONE_TERMINAL,
-            "f T conflicts",
-            "",
-            "`T` has no production\n",
-            2,
-        ),
-        (ONE_TERMINAL, "f T tree x", "", "`T` has no production\n", 2),
-        (
-            "Sum = \"x\"",
-            "f Su tree x",
-            "",
-            "`Su` has no production; perhaps `Sum` is meant\n",
-            2,
-        ),
-        (
-            ONE_TERMINAL,
-            "f S conflicts",
-            "0 conflicts of 0 causes\n",
-            "",
-            0,
-        ),
-        (
-            ONE_TERMINAL,
-            "f S dot --conflicts",
-            NO_GRAPH,
-            "no conflicts\n",
-            0,
-        ),
-        (ONE_TERMINAL, "f S dot --around 1 --depth 1", GRAPH, "", 0),
-        (CONTROL, "f S tree \u{1b}", "S\n  \"\u{241b}\"\n", "", 0),
-        (
-            CONTROL,
-            "f S tree x",
-            "",
-            "token 1, \"x\", is wrong; expected: \"\u{241b}\"\n",
-            1,
-        ),
-    ] {
-        let (wrote, said, got) = ran_by(alloc, Method::Lane, Some(text.as_bytes()), line)?;
-        assert_eq!(rt; wrote.as_slice(), expected.as_bytes());
-        assert_eq!(rt; said.as_slice(), remark.as_bytes());
-        assert_eq!(rt; got, status);
-    }
-    Ok(())
+    expect_all(&rt, rt.alloc(), Method::Lane, &MESSAGES)
 }

@@ -13,12 +13,12 @@ const MOST: usize = 40_000;
 // The program on a text, which can be run again, with the outputs and the status that are expected
 // if there is enough memory.
 #[derive(Drop)]
-struct Program<'text> {
-    words: Vec<String>,
+struct Program<'a> {
+    words: &'a [String],
     method: Method,
-    text: &'text str,
-    wanted: Vec<u8>,
-    remark: Vec<u8>,
+    text: &'a str,
+    wanted: &'a [u8],
+    remark: &'a [u8],
     status: u8,
     out: Vec<u8>,
     err: Vec<u8>,
@@ -32,7 +32,7 @@ impl Attempt for Program<'_> {
         let method = self.method;
         let status = run(
             alloc,
-            &self.words,
+            self.words,
             method,
             file,
             &mut self.out,
@@ -42,8 +42,7 @@ impl Attempt for Program<'_> {
             let told = self.out.is_empty() && self.err.as_slice() == b"out of memory\n".as_slice();
             return if told { None } else { Some(false) };
         }
-        let expected = self.out.as_slice() == self.wanted.as_slice()
-            && self.err.as_slice() == self.remark.as_slice();
+        let expected = self.out.as_slice() == self.wanted && self.err.as_slice() == self.remark;
         Some(expected && status == self.status)
     }
 }
@@ -62,16 +61,22 @@ fn each_growth_refused(
     let (wanted, remark, got) = ran_by(alloc, method, Some(text.as_bytes()), line)?;
     assert_eq!(rt; got, status);
     let mut program = Program {
-        words: words_of(alloc, line)?,
+        words: &words_of(alloc, line)?,
         method,
         text,
-        wanted,
-        remark,
+        wanted: &wanted,
+        remark: &remark,
         status,
         out: Vec::with_capacity(alloc, MOST)?,
         err: Vec::with_capacity(alloc, 400)?,
     };
-    match refused_in_turn(alloc, &mut program)? {
+    expect_refused(rt, alloc, &mut program)
+}
+
+// Fails unless an allocation was refused in each turn but the last one, which has the expected
+// result.
+fn expect_refused(rt: &impl Abort, alloc: Global, program: &mut Program<'_>) -> Result<(), Fail> {
+    match refused_in_turn(alloc, program)? {
         Outcome::Refused(turns) => {
             assert!(rt; turns > 0, "no growth was refused");
             Ok(())

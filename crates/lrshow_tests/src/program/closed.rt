@@ -9,7 +9,7 @@ use std::process::Abort;
 use std::test::Fail;
 
 /// What a writer does after it has taken its bytes.
-#[derive(Clone, Copy, Debug, PartialEq, Eq)]
+#[derive(Clone, Copy, Debug)]
 enum Then {
     Fails,
     TakesNothing,
@@ -136,6 +136,28 @@ fn page_to_a_closed_output(rt: HostRuntime) -> Result<(), Fail> {
     each_hundredth(&rt, rt.alloc(), "f S html")
 }
 
+// Runs the program on wrong arguments, with a standard error that takes `left` bytes.
+fn closed_error_behind(
+    rt: &impl Abort,
+    alloc: Global,
+    words: &[String],
+    then: Then,
+    left: usize,
+) -> Result<(), Fail> {
+    let mut out = Vec::new(alloc);
+    let mut err = Closing {
+        left,
+        taken: 0,
+        then,
+    };
+    let file = Some(ONE_TERMINAL.as_bytes());
+    let status = run(alloc, words, Method::Lane, file, &mut out, &mut err);
+    assert_eq!(rt; status, 2, "{then:?} after {left}");
+    assert_eq!(rt; out.len(), 0, "{then:?} after {left}");
+    assert_eq!(rt; err.taken, left, "{then:?} after {left}");
+    Ok(())
+}
+
 // If standard error fails, nothing can be reported.
 #[test]
 fn closed_error_output(rt: HostRuntime) -> Result<(), Fail> {
@@ -143,17 +165,7 @@ fn closed_error_output(rt: HostRuntime) -> Result<(), Fail> {
     let words = words_of(alloc, "f S dot --around")?;
     for then in [Then::Fails, Then::TakesNothing, Then::IsInterrupted] {
         for left in 0..=USAGE.len() {
-            let mut out = Vec::new(alloc);
-            let mut err = Closing {
-                left,
-                taken: 0,
-                then,
-            };
-            let file = Some(ONE_TERMINAL.as_bytes());
-            let status = run(alloc, &words, Method::Lane, file, &mut out, &mut err);
-            assert_eq!(rt; status, 2, "{then:?} after {left}");
-            assert_eq!(rt; out.len(), 0, "{then:?} after {left}");
-            assert_eq!(rt; err.taken, left, "{then:?} after {left}");
+            closed_error_behind(&rt, alloc, &words, then, left)?;
         }
     }
     Ok(())
