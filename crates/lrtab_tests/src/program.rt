@@ -18,7 +18,7 @@ use std::test::Fail;
 const USAGE: &str = "usage: lrtab FILE START (parse LIMIT TOKEN.. | report | explain)\n";
 
 /// What a writer does after it has taken its bytes.
-#[derive(Clone, Copy, Debug, PartialEq, Eq)]
+#[derive(Clone, Copy, Debug)]
 enum Then {
     Fails,
     TakesNothing,
@@ -87,13 +87,26 @@ fn ran_by(
     Ok((out, err, status))
 }
 
-/// The same by the lane method.
-fn ran(
+/// Fails unless a run on a file, or without one, prints a text and has an exit status. With status 2
+/// the text goes to standard error, and else to standard output. The other output stays empty.
+fn expect(
+    rt: &impl Abort,
     alloc: Global,
+    method: Method,
     file: Option<&[u8]>,
-    line: &str,
-) -> Result<(Vec<u8>, Vec<u8>, u8), AllocError> {
-    ran_by(alloc, Method::Lane, file, line)
+    row: (&str, &str, u8),
+) -> Result<(), Fail> {
+    let (line, printed, status) = row;
+    let (out, err) = if status == 2 {
+        ("", printed)
+    } else {
+        (printed, "")
+    };
+    let (wrote, said, got) = ran_by(alloc, method, file, line)?;
+    assert!(rt; wrote.as_slice() == out.as_bytes(), "{method:?}: {line}");
+    assert!(rt; said.as_slice() == err.as_bytes(), "{method:?}: {line}");
+    assert_eq!(rt; got, status, "{method:?}: {line}");
+    Ok(())
 }
 
 #[test]
@@ -109,12 +122,15 @@ fn methods_of_words(rt: HostRuntime) -> Result<(), Fail> {
 fn files_that_cannot_be_read(rt: HostRuntime) -> Result<(), Fail> {
     let alloc = rt.alloc();
     let no_text: &[u8] = &[83, 32, 61, 32, 34, 255, 34];
+    let row = ("a/f S parse 2 x", "cannot read a/f\n", 2);
     for file in [None, Some(no_text)] {
-        let (wrote, said, got) = ran(alloc, file, "a/f S parse 2 x")?;
-        assert_eq!(rt; wrote.len(), 0);
-        assert_eq!(rt; said.as_slice(), b"cannot read a/f\n".as_slice());
-        assert_eq!(rt; got, 2);
+        expect(&rt, alloc, Method::Lane, file, row)?;
     }
+    broken_file(&rt, alloc)
+}
+
+// Tries a file of which no read succeeds.
+fn broken_file(rt: &impl Abort, alloc: Global) -> Result<(), Fail> {
     let words = words_of(alloc, "a/f S parse 2 x")?;
     let mut out = Vec::new(alloc);
     let mut err = Vec::new(alloc);
@@ -132,31 +148,65 @@ fn files_that_cannot_be_read(rt: HostRuntime) -> Result<(), Fail> {
     Ok(())
 }
 
+// So many productions, of one nonterminal or of one each.
+fn productions(alloc: Global, count: usize, are_of_one: bool) -> Result<String, AllocError> {
+    let mut text = String::new(alloc);
+    for n in 0..count {
+        if are_of_one {
+            write!(text, "S = \"x{n}\"\n")?;
+        } else {
+            write!(text, "A{n} = \"x{n}\"\n")?;
+        }
+    }
+    Ok(text)
+}
+
 // The canonical method is used. With the lane method each item has all tokens, which would take
 // some GB here.
 #[test]
 fn ten_thousand_productions(rt: HostRuntime) -> Result<(), Fail> {
     let alloc = rt.alloc();
-    let mut one = String::new(alloc);
-    let mut many = String::new(alloc);
-    for n in 0..10000 {
-        one.push_str(format!(in alloc; "S = \"x{n}\"\n")?.as_str())?;
-        many.push_str(format!(in alloc; "A{n} = \"x{n}\"\n")?.as_str())?;
+    for (are_of_one, row) in [
+        (true, ("f S parse 2 x9999", "[S: \"x9999\"]\n", 0)),
+        (false, ("f A9999 parse 2 x9999", "[A9999: \"x9999\"]\n", 0)),
+    ] {
+        let text = productions(alloc, 10_000, are_of_one)?;
+        let file = Some(text.as_bytes());
+        expect(&rt, alloc, Method::Canonical, file, row)?;
     }
-    let canonical = Method::Canonical;
-    let file = Some(one.as_bytes());
-    let (wrote, _said, status) = ran_by(alloc, canonical, file, "f S parse 2 x9999")?;
-    assert_eq!(rt; wrote.as_slice(), b"[S: \"x9999\"]\n".as_slice());
-    assert_eq!(rt; status, 0);
-    let file = Some(many.as_bytes());
-    let (wrote, _said, status) = ran_by(alloc, canonical, file, "f A9999 parse 2 x9999")?;
-    assert_eq!(rt; wrote.as_slice(), b"[A9999: \"x9999\"]\n".as_slice());
-    assert_eq!(rt; status, 0);
     Ok(())
 }
 
-/// Runs the program on a text, with outputs that take each number of bytes up to `whole`. If an
-/// output takes fewer bytes, the program must report that.
+/// Runs the program on a text, with an output that takes `left` bytes. If these are fewer than
+/// `whole`, the program must report that it cannot write.
+fn closed_behind(
+    rt: &impl Abort,
+    alloc: Global,
+    method: Method,
+    text: &str,
+    words: &[String],
+    whole: usize,
+    status: u8,
+    then: Then,
+    left: usize,
+) -> Result<(), Fail> {
+    let mut err = Vec::new(alloc);
+    let mut out = Closing {
+        left,
+        taken: 0,
+        then,
+    };
+    let file = Some(text.as_bytes());
+    let got = run(alloc, words, method, file, &mut out, &mut err);
+    let expected = if left < whole { 2 } else { status };
+    let said = if left < whole { "cannot write\n" } else { "" };
+    assert_eq!(rt; out.taken, left, "{then:?} after {left}");
+    assert_eq!(rt; got, expected, "{then:?} after {left}");
+    assert_eq!(rt; err.as_slice(), said.as_bytes(), "{then:?} after {left}");
+    Ok(())
+}
+
+/// Runs the program on a text, with outputs that take each number of bytes up to `whole`.
 fn each_closed_output(
     rt: &impl Abort,
     alloc: Global,
@@ -169,19 +219,7 @@ fn each_closed_output(
     let words = words_of(alloc, line)?;
     for then in [Then::Fails, Then::TakesNothing, Then::IsInterrupted] {
         for left in 0..=whole {
-            let mut err = Vec::new(alloc);
-            let mut out = Closing {
-                left,
-                taken: 0,
-                then,
-            };
-            let file = Some(text.as_bytes());
-            let got = run(alloc, &words, method, file, &mut out, &mut err);
-            let expected = if left < whole { 2 } else { status };
-            let said = if left < whole { "cannot write\n" } else { "" };
-            assert_eq!(rt; out.taken, left, "{then:?} after {left}");
-            assert_eq!(rt; got, expected, "{then:?} after {left}");
-            assert_eq!(rt; err.as_slice(), said.as_bytes(), "{then:?} after {left}");
+            closed_behind(rt, alloc, method, text, &words, whole, status, then, left)?;
         }
     }
     Ok(())
@@ -194,6 +232,28 @@ fn closed_output(rt: HostRuntime) -> Result<(), Fail> {
     each_closed_output(&rt, rt.alloc(), Method::Lane, "S = \"x\"", line, whole, 0)
 }
 
+// Runs the program on wrong arguments, with a standard error that takes `left` bytes.
+fn closed_error_behind(
+    rt: &impl Abort,
+    alloc: Global,
+    words: &[String],
+    then: Then,
+    left: usize,
+) -> Result<(), Fail> {
+    let mut out = Vec::new(alloc);
+    let mut err = Closing {
+        left,
+        taken: 0,
+        then,
+    };
+    let file = Some("S = \"x\"".as_bytes());
+    let status = run(alloc, words, Method::Lane, file, &mut out, &mut err);
+    assert_eq!(rt; status, 2, "{then:?} after {left}");
+    assert_eq!(rt; out.len(), 0, "{then:?} after {left}");
+    assert_eq!(rt; err.taken, left, "{then:?} after {left}");
+    Ok(())
+}
+
 // If standard error fails, nothing can be reported.
 #[test]
 fn closed_error_output(rt: HostRuntime) -> Result<(), Fail> {
@@ -201,17 +261,7 @@ fn closed_error_output(rt: HostRuntime) -> Result<(), Fail> {
     let words = words_of(alloc, "f S parse")?;
     for then in [Then::Fails, Then::TakesNothing, Then::IsInterrupted] {
         for left in 0..=USAGE.len() {
-            let mut out = Vec::new(alloc);
-            let mut err = Closing {
-                left,
-                taken: 0,
-                then,
-            };
-            let file = Some("S = \"x\"".as_bytes());
-            let status = run(alloc, &words, Method::Lane, file, &mut out, &mut err);
-            assert_eq!(rt; status, 2, "{then:?} after {left}");
-            assert_eq!(rt; out.len(), 0, "{then:?} after {left}");
-            assert_eq!(rt; err.taken, left, "{then:?} after {left}");
+            closed_error_behind(&rt, alloc, &words, then, left)?;
         }
     }
     Ok(())

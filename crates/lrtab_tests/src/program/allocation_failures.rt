@@ -12,11 +12,11 @@ use std::test::Fail;
 // The program on a text, which can be run again. The text `wanted` is expected on standard error if
 // the status is 2, and else on standard output.
 #[derive(Drop)]
-struct Program<'text> {
-    words: Vec<String>,
+struct Program<'a> {
+    words: &'a [String],
     method: Method,
-    text: &'text str,
-    wanted: &'text str,
+    text: &'a str,
+    wanted: &'a str,
     status: u8,
     out: Vec<u8>,
     err: Vec<u8>,
@@ -35,7 +35,7 @@ impl Attempt for Program<'_> {
         let method = self.method;
         let status = run(
             alloc,
-            &self.words,
+            self.words,
             method,
             file,
             &mut self.out,
@@ -67,7 +67,7 @@ fn each_growth_refused(
     status: u8,
 ) -> Result<(), Fail> {
     let mut program = Program {
-        words: words_of(alloc, line)?,
+        words: &words_of(alloc, line)?,
         method,
         text,
         wanted,
@@ -75,7 +75,13 @@ fn each_growth_refused(
         out: Vec::with_capacity(alloc, 4000)?,
         err: Vec::with_capacity(alloc, 400)?,
     };
-    match refused_in_turn(alloc, &mut program)? {
+    expect_refused(rt, alloc, &mut program)
+}
+
+// Fails unless an allocation was refused in each turn but the last one, which has the expected
+// result.
+fn expect_refused(rt: &impl Abort, alloc: Global, program: &mut Program<'_>) -> Result<(), Fail> {
+    match refused_in_turn(alloc, program)? {
         Outcome::Refused(turns) => {
             assert!(rt; turns > 0, "no growth was refused");
             Ok(())

@@ -1,11 +1,10 @@
 //! Rows of the table of the program, each tried by both methods: a file, the arguments, the printed
-//! text and the exit status. With status 2 the text goes to standard error, and else to standard
-//! output. The other output stays empty.
+//! text and the exit status.
 use super::explanations::{
     ARROW, ARROW_EXPLAINED, ONE_EXAMPLE, ONE_EXAMPLE_EXPLAINED, TWICE_EXPLAINED,
 };
 use super::reports::ONE_TERMINAL;
-use super::{USAGE, ran_by};
+use super::{USAGE, expect};
 use lalrpop_tables::build::Method;
 use std::alloc::Global;
 use std::process::Abort;
@@ -300,38 +299,22 @@ State 5 {
 }
 ";
 
-// Fails unless a run on a file, or without one, prints a text and has an exit status.
-fn expect(
-    rt: &impl Abort,
-    alloc: Global,
-    method: Method,
-    file: Option<&str>,
-    row: (&str, &str, u8),
-) -> Result<(), Fail> {
-    let (line, printed, status) = row;
-    let bytes = match file {
-        Some(text) => Some(text.as_bytes()),
-        None => None,
-    };
-    let (wrote, said, got) = ran_by(alloc, method, bytes, line)?;
-    let (out, err) = if status == 2 {
-        ("", printed)
-    } else {
-        (printed, "")
-    };
-    assert!(rt; wrote.as_slice() == out.as_bytes(), "{method:?}: {line}");
-    assert!(rt; said.as_slice() == err.as_bytes(), "{method:?}: {line}");
-    assert_eq!(rt; got, status, "{method:?}: {line}");
-    Ok(())
-}
-
 // Fails unless each row has the expected result by the method.
 fn expect_all(rt: &impl Abort, alloc: Global, method: Method, rows: &[Row]) -> Result<(), Fail> {
     for (text, line, printed, status) in rows {
-        expect(rt, alloc, method, Some(*text), (*line, *printed, *status))?;
+        let file = Some(text.as_bytes());
+        expect(rt, alloc, method, file, (*line, *printed, *status))?;
     }
     Ok(())
 }
+
+// The arguments, and what they give without a file.
+const UNREAD: [(&str, &str, u8); 4] = [
+    ("a/f S parse 2 x", "cannot read a/f\n", 2),
+    ("a/f S report", "cannot read a/f\n", 2),
+    ("a/f S explain", "cannot read a/f\n", 2),
+    ("a/f S parse", USAGE, 2),
+];
 
 #[test]
 fn rows_of_the_program(rt: HostRuntime) -> Result<(), Fail> {
@@ -340,20 +323,13 @@ fn rows_of_the_program(rt: HostRuntime) -> Result<(), Fail> {
         expect_all(&rt, alloc, method, &PARSES)?;
         expect_all(&rt, alloc, method, &FAULTS)?;
         expect_all(&rt, alloc, method, &TEXTS)?;
-        for verb in ["parse 2 x", "report", "explain"] {
-            let line = format!(in alloc; "a/f S {verb}")?;
-            expect(
-                &rt,
-                alloc,
-                method,
-                None,
-                (line.as_str(), "cannot read a/f\n", 2),
-            )?;
+        for row in UNREAD {
+            expect(&rt, alloc, method, None, row)?;
         }
-        expect(&rt, alloc, method, None, ("a/f S parse", USAGE, 2))?;
     }
+    let file = Some(ONE.as_bytes());
     let by_lanes = ("f S report", ONE_BY_LANES, 0);
-    expect(&rt, alloc, Method::Lane, Some(ONE), by_lanes)?;
+    expect(&rt, alloc, Method::Lane, file, by_lanes)?;
     let canonical = ("f S report", ONE_TERMINAL, 0);
-    expect(&rt, alloc, Method::Canonical, Some(ONE), canonical)
+    expect(&rt, alloc, Method::Canonical, file, canonical)
 }
