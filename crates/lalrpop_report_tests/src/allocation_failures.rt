@@ -11,6 +11,7 @@ use lalrpop_tables::lr1::build_states;
 use refused_growth::attempts::Attempt;
 use std::alloc::Global;
 use std::io::{self, ErrorKind};
+use std::process::Abort;
 use std::test::Fail;
 use test_fixtures::growths::each_growth_refused;
 use test_fixtures::texts::{ONE, grammar};
@@ -37,28 +38,41 @@ impl Attempt for Generated<'_, '_> {
     }
 }
 
-// After all turns the writer has the text once.
-#[test]
-fn a_generated_report(rt: HostRuntime) -> Result<(), Fail> {
-    let alloc = rt.alloc();
-    let grammar = grammar(alloc, ONE)?;
-    let outcome = build_states(alloc, &grammar, name_of(alloc, "S")?, &Options::default());
-    let taking = Taking {
+// A writer of a thousand bytes.
+fn thousand(alloc: Global) -> Result<Counted<Taking>, Fail> {
+    Ok(Counted::new(Taking {
         taken: Vec::with_capacity(alloc, 1000)?,
         step: 1000,
         left: 1000,
         fault: None,
-    };
+    }))
+}
+
+// Fails unless the writer has the text once after all turns.
+fn expect_once(
+    rt: &impl Abort,
+    alloc: Global,
+    terminals: &TerminalSet,
+    outcome: &Lr1Result,
+) -> Result<(), Fail> {
     let mut generated = Generated {
-        out: Counted::new(taking),
-        terminals: &grammar.terminals,
-        outcome: &outcome,
+        out: thousand(alloc)?,
+        terminals,
+        outcome,
     };
     each_growth_refused(alloc, &mut generated)?;
     let Generated { out, .. } = generated;
     let taken = out.into_inner().taken;
     assert_eq!(rt; taken.as_slice(), ONE_TERMINAL.as_bytes());
     Ok(())
+}
+
+#[test]
+fn a_generated_report(rt: HostRuntime) -> Result<(), Fail> {
+    let alloc = rt.alloc();
+    let grammar = grammar(alloc, ONE)?;
+    let outcome = build_states(alloc, &grammar, name_of(alloc, "S")?, &Options::default());
+    expect_once(&rt, alloc, &grammar.terminals, &outcome)
 }
 
 // Forty bytes, which fill the block of the list.
@@ -135,25 +149,29 @@ impl Attempt for Report<'_, '_> {
     }
 }
 
-#[test]
-fn a_report(rt: HostRuntime) -> Result<(), Fail> {
-    let alloc = rt.alloc();
-    let grammar = grammar(alloc, ONE)?;
-    let outcome = build_lr0_states(alloc, &grammar, name_of(alloc, "S")?);
-    let taking = Taking {
-        taken: Vec::with_capacity(alloc, 1000)?,
-        step: 1000,
-        left: 1000,
-        fault: None,
-    };
+// Fails unless the writer has the text once after all turns.
+fn expect_report_once(
+    rt: &impl Abort,
+    alloc: Global,
+    terminals: &TerminalSet,
+    outcome: &LrResult<'_, Nil>,
+) -> Result<(), Fail> {
     let mut report = Report {
-        out: Counted::new(taking),
-        terminals: &grammar.terminals,
-        outcome: &outcome,
+        out: thousand(alloc)?,
+        terminals,
+        outcome,
     };
     each_growth_refused(alloc, &mut report)?;
     let Report { out, .. } = report;
     let taken = out.into_inner().taken;
     assert_eq!(rt; taken.as_slice(), WITHOUT_LOOKAHEAD.as_bytes());
     Ok(())
+}
+
+#[test]
+fn a_report(rt: HostRuntime) -> Result<(), Fail> {
+    let alloc = rt.alloc();
+    let grammar = grammar(alloc, ONE)?;
+    let outcome = build_lr0_states(alloc, &grammar, name_of(alloc, "S")?);
+    expect_report_once(&rt, alloc, &grammar.terminals, &outcome)
 }

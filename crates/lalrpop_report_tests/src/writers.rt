@@ -11,6 +11,7 @@ use lalrpop_tables::build::options::Options;
 use lalrpop_tables::lr1::build_states;
 use std::alloc::Global;
 use std::io::{self, ErrorKind, Write};
+use std::process::Abort;
 use std::test::Fail;
 use test_fixtures::texts::{ONE, grammar};
 
@@ -108,33 +109,53 @@ fn sent(
     (told(&answer), faults, out.into_inner().taken)
 }
 
+// Fails unless a report to a writer that stops has an expected result, with as many faults, and the
+// writer took the expected bytes.
+fn expect_sent(
+    rt: &impl Abort,
+    alloc: Global,
+    terminals: &TerminalSet,
+    outcome: &Lr1Result,
+    writer: (usize, usize, Option<ErrorKind>),
+    expected: (&str, u64, &[u8]),
+) {
+    let (step, left, fault) = writer;
+    let (answer, faults, taken) = sent(alloc, terminals, outcome, step, left, fault);
+    assert_eq!(rt; (answer, faults), (expected.0, expected.1));
+    assert_eq!(rt; taken.as_slice(), expected.2);
+}
+
+// The bytes that a writer takes in a call, its fault, and the result of a report to it.
+const WRITERS: [(usize, Option<ErrorKind>, &str); 4] = [
+    (1, Some(ErrorKind::Interrupted), "write"),
+    (3, None, "zero"),
+    (1000, Some(ErrorKind::BrokenPipe), "write"),
+    (1000, None, "zero"),
+];
+
 // The bytes that the writer took are a beginning of the text. For example, a writer that takes ten
 // bytes has `Lalrpop Re`.
 #[test]
 fn writers_that_stop(rt: HostRuntime) -> Result<(), Fail> {
     let alloc = rt.alloc();
     let grammar = grammar(alloc, "S = \"x\"")?;
+    let terminals = &grammar.terminals;
     let outcome = build_states(alloc, &grammar, name_of(alloc, "S")?, &Options::default());
-    for left in 0..ONE_TERMINAL.len() + 1 {
-        for (step, fault, stopped) in [
-            (1, Some(ErrorKind::Interrupted), "write"),
-            (3, None, "zero"),
-            (1000, Some(ErrorKind::BrokenPipe), "write"),
-            (1000, None, "zero"),
-        ] {
-            let is_cut = left < ONE_TERMINAL.len();
-            let (answer, faults, taken) = sent(
+    let whole = ONE_TERMINAL.as_bytes();
+    for (step, fault, stopped) in WRITERS {
+        for left in 0..whole.len() {
+            let expected = (stopped, 1, &whole[..left]);
+            expect_sent(
+                &rt,
                 alloc,
-                &grammar.terminals,
+                terminals,
                 &outcome,
-                step,
-                left,
-                fault,
+                (step, left, fault),
+                expected,
             );
-            assert_eq!(rt; answer, if is_cut { stopped } else { "whole" });
-            assert_eq!(rt; faults, if is_cut { 1 } else { 0 });
-            assert_eq!(rt; taken.as_slice(), &ONE_TERMINAL.as_bytes()[..left]);
         }
+        let writer = (step, whole.len(), fault);
+        expect_sent(&rt, alloc, terminals, &outcome, writer, ("whole", 0, whole));
     }
     Ok(())
 }
@@ -191,24 +212,36 @@ fn generated(
     (told(&answer), faults, out.into_inner().taken)
 }
 
+// As `expect_sent`, for `generated`.
+fn expect_generated(
+    rt: &impl Abort,
+    alloc: Global,
+    terminals: &TerminalSet,
+    outcome: &LrResult<'_, Nil>,
+    writer: (usize, Option<ErrorKind>),
+    expected: (&str, u64, &[u8]),
+) {
+    let (left, fault) = writer;
+    let (answer, faults, taken) = generated(alloc, terminals, outcome, left, fault);
+    assert_eq!(rt; (answer, faults), (expected.0, expected.1));
+    assert_eq!(rt; taken.as_slice(), expected.2);
+}
+
 #[test]
 fn writers_that_stop_a_generator(rt: HostRuntime) -> Result<(), Fail> {
     let alloc = rt.alloc();
     let grammar = grammar(alloc, ONE)?;
+    let terminals = &grammar.terminals;
     let outcome = build_lr0_states(alloc, &grammar, name_of(alloc, "S")?);
-    for left in 0..WITHOUT_LOOKAHEAD.len() {
-        let beginning = &WITHOUT_LOOKAHEAD.as_bytes()[..left];
-        let fault = Some(ErrorKind::BrokenPipe);
-        let (answer, faults, taken) = generated(alloc, &grammar.terminals, &outcome, left, fault);
-        assert_eq!(rt; (answer, faults), ("write", 1));
-        assert_eq!(rt; taken.as_slice(), beginning);
-        let (answer, faults, taken) = generated(alloc, &grammar.terminals, &outcome, left, None);
-        assert_eq!(rt; (answer, faults), ("zero", 1));
-        assert_eq!(rt; taken.as_slice(), beginning);
+    let whole = WITHOUT_LOOKAHEAD.as_bytes();
+    for (fault, stopped) in [(Some(ErrorKind::BrokenPipe), "write"), (None, "zero")] {
+        for left in 0..whole.len() {
+            let expected = (stopped, 1, &whole[..left]);
+            expect_generated(&rt, alloc, terminals, &outcome, (left, fault), expected);
+        }
     }
-    let (answer, faults, taken) = generated(alloc, &grammar.terminals, &outcome, 1000, None);
-    assert_eq!(rt; (answer, faults), ("whole", 0));
-    assert_eq!(rt; taken.as_slice(), WITHOUT_LOOKAHEAD.as_bytes());
+    let expected = ("whole", 0, whole);
+    expect_generated(&rt, alloc, terminals, &outcome, (1000, None), expected);
     Ok(())
 }
 
@@ -221,19 +254,36 @@ State Table
 ----------------------------------------
 ";
 
+// A result with states and conflicts, of which there are none, has a text.
+fn expect_no_conflicts(
+    rt: &impl Abort,
+    alloc: Global,
+    terminals: &TerminalSet,
+) -> Result<(), Fail> {
+    let outcome: Lr1Result = Err(BuildError::Conflicts(TableConstructionError {
+        states: Vec::new(alloc),
+        conflicts: Vec::new(alloc),
+    }));
+    let (answer, faults, taken) = sent(alloc, terminals, &outcome, 9, 1000, None);
+    assert_eq!(rt; (answer, faults), ("whole", 0));
+    let text = String::from_utf8(taken)?;
+    assert!(rt; text.as_str().ends_with(NO_CONFLICTS));
+    Ok(())
+}
+
 #[test]
 fn results_without_tables(rt: HostRuntime) -> Result<(), Fail> {
     let alloc = rt.alloc();
     let grammar = grammar(alloc, "")?;
     let outcome: Lr1Result = Err(BuildError::Memory);
-    let (answer, faults, taken) = sent(alloc, &grammar.terminals, &outcome, 1, 1000, None);
-    assert_eq!(rt; (answer, faults, taken.len()), ("no tables", 0, 0));
-    let outcome: Lr1Result = Err(BuildError::Conflicts(TableConstructionError {
-        states: Vec::new(alloc),
-        conflicts: Vec::new(alloc),
-    }));
-    let (answer, faults, taken) = sent(alloc, &grammar.terminals, &outcome, 9, 1000, None);
-    assert_eq!(rt; (answer, faults), ("whole", 0));
-    assert!(rt; String::from_utf8(taken)?.as_str().ends_with(NO_CONFLICTS));
-    Ok(())
+    let expected: (&str, u64, &[u8]) = ("no tables", 0, &[]);
+    expect_sent(
+        &rt,
+        alloc,
+        &grammar.terminals,
+        &outcome,
+        (1, 1000, None),
+        expected,
+    );
+    expect_no_conflicts(&rt, alloc, &grammar.terminals)
 }
