@@ -2,6 +2,7 @@
 
 use grammar_text::symbols::name_of;
 use lalrpop_base::lr1_core::state::Lr1State;
+use lalrpop_base::repr::grammar::Grammar;
 use lalrpop_tables::build::options::Options;
 use lalrpop_tables::lr1::build_states;
 use parse_tables::error::ParseTableError;
@@ -64,6 +65,18 @@ fn agreeing(state: &Lr1State<'_>, table: &ParseTable, number: u32) -> Option<usi
     Some(count)
 }
 
+// How many cells of a table are as the states have them.
+fn agreeing_cells(states: &[Lr1State<'_>], table: &ParseTable) -> Option<usize> {
+    let mut count: usize = 0;
+    for (number, state) in states.iter().enumerate() {
+        let Some(own) = agreeing(state, table, small(number)) else {
+            return None;
+        };
+        count = count.wrapping_add(own);
+    }
+    Some(count)
+}
+
 // How many cells of the table of a grammar are as its states have them.
 fn cells(alloc: Global, text: &str) -> Result<Option<usize>, Fail> {
     let grammar = grammar(alloc, text)?;
@@ -71,14 +84,7 @@ fn cells(alloc: Global, text: &str) -> Result<Option<usize>, Fail> {
         return Ok(None);
     };
     let table = ParseTable::new(alloc, &grammar, &states)?;
-    let mut count: usize = 0;
-    for (number, state) in states.iter().enumerate() {
-        let Some(own) = agreeing(state, &table, small(number)) else {
-            return Ok(None);
-        };
-        count = count.wrapping_add(own);
-    }
-    Ok(Some(count))
+    Ok(agreeing_cells(&states, &table))
 }
 
 // Two states of 2 tokens and 1 name. 9 states of 5 tokens and 3 names. 15 states, of which
@@ -92,16 +98,27 @@ fn tables_have_the_actions_and_gotos_of_states(rt: HostRuntime) -> Result<(), Fa
     Ok(())
 }
 
+// Whether state 0 has no action and no goto, and state 1 has no side.
+fn has_nothing(table: &ParseTable) -> bool {
+    table.action(0, 0) == TableAction::None && table.goto(0, 0).is_none() && table.side(1).is_none()
+}
+
 // A state past the end has no action and no goto.
 #[test]
 fn a_state_past_the_end_has_nothing(rt: HostRuntime) -> Result<(), Fail> {
     let alloc = rt.alloc();
     let grammar = grammar(alloc, ONE)?;
     let table = ParseTable::new(alloc, &grammar, &[])?;
-    assert!(rt; table.action(0, 0) == TableAction::None);
-    assert!(rt; table.goto(0, 0).is_none());
-    assert!(rt; table.side(1).is_none());
+    assert!(rt; has_nothing(&table));
     Ok(())
+}
+
+// Whether states are refused since they reduce by a production that the grammar does not list.
+fn are_refused(alloc: Global, grammar: &Grammar, states: &[Lr1State<'_>]) -> bool {
+    match ParseTable::new(alloc, grammar, states) {
+        Err(ParseTableError::UnknownProduction) => true,
+        _ => false,
+    }
 }
 
 // States of another grammar reduce by productions that this one does not list.
@@ -109,12 +126,10 @@ fn a_state_past_the_end_has_nothing(rt: HostRuntime) -> Result<(), Fail> {
 fn states_of_another_grammar_are_refused(rt: HostRuntime) -> Result<(), Fail> {
     let alloc = rt.alloc();
     let sums = grammar(alloc, SUMS)?;
-    let one = grammar(alloc, ONE)?;
     let Ok(states) = build_states(alloc, &sums, name_of(alloc, "S")?, &Options::default()) else {
         return Err(Fail::from("no tables"));
     };
-    match ParseTable::new(alloc, &one, &states) {
-        Err(ParseTableError::UnknownProduction) => Ok(()),
-        _ => Err(Fail::from("states of another grammar have a table")),
-    }
+    let one = grammar(alloc, ONE)?;
+    assert!(rt; are_refused(alloc, &one, &states));
+    Ok(())
 }
