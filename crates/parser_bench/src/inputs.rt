@@ -37,22 +37,37 @@ Elements = Value
 Elements = Elements \",\" Value
 ";
 
+/// The table of a language: `json`, or the calculator.
+pub fn table_of(alloc: Global, language: &str) -> anyhow::Result<ParseTable> {
+    let text = match language {
+        "json" => JSON,
+        _ => CALCULATOR,
+    };
+    let grammar = read(alloc, text)?;
+    let states = build_states(alloc, &grammar, name_of(alloc, "S")?, &Options::default())?;
+    Ok(ParseTable::new(alloc, &grammar, &states)?)
+}
+
 /// A table, and the bits of terminals: first some, then some that are repeated, then the last.
 #[derive(Drop)]
-pub struct Input {
-    pub table: ParseTable,
+pub struct Input<'a> {
+    pub table: &'a ParseTable,
     pub first: Vec<u32>,
     pub repeated: Vec<u32>,
     pub last: Vec<u32>,
 }
 
-impl Input {
-    /// The input of a language: `json`, or the calculator.
-    pub fn of(alloc: Global, language: &str) -> anyhow::Result<Input> {
+impl Input<'_> {
+    /// The input of a language by its table.
+    pub fn of<'a>(
+        alloc: Global,
+        language: &str,
+        table: &'a ParseTable,
+    ) -> anyhow::Result<Input<'a>> {
         match language {
             "json" => made(
                 alloc,
-                JSON,
+                table,
                 &["["],
                 &[
                     "{", "string", ":", "[", "number", ",", "number", ",", "true", "]", ",",
@@ -62,7 +77,7 @@ impl Input {
             ),
             _ => made(
                 alloc,
-                CALCULATOR,
+                table,
                 &[],
                 &["n", "+", "n", "*", "(", "n", "-", "n", ")", "/"],
                 &["n"],
@@ -71,25 +86,19 @@ impl Input {
     }
 }
 
-// The input of a grammar, from the texts of literals.
-fn made(
+// The input by a table, from the texts of literals.
+fn made<'a>(
     alloc: Global,
-    grammar: &str,
+    table: &'a ParseTable,
     first: &[&str],
     repeated: &[&str],
     last: &[&str],
-) -> anyhow::Result<Input> {
-    let grammar = read(alloc, grammar)?;
-    let states = build_states(alloc, &grammar, name_of(alloc, "S")?, &Options::default())?;
-    let table = ParseTable::new(alloc, &grammar, &states)?;
-    let first = bits_of(alloc, &table, first)?;
-    let repeated = bits_of(alloc, &table, repeated)?;
-    let last = bits_of(alloc, &table, last)?;
+) -> anyhow::Result<Input<'a>> {
     Ok(Input {
         table,
-        first,
-        repeated,
-        last,
+        first: bits_of(alloc, table, first)?,
+        repeated: bits_of(alloc, table, repeated)?,
+        last: bits_of(alloc, table, last)?,
     })
 }
 

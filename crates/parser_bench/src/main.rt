@@ -5,7 +5,7 @@
 
 mod inputs;
 
-use inputs::Input;
+use inputs::{Input, table_of};
 use parse_nodes::builder::NodeBuilder;
 use std::alloc::Global;
 use std::convert::Infallible;
@@ -25,23 +25,31 @@ fn main(rt: HostRuntime) -> anyhow::Result<()> {
         println!(rt; "{}", all_made(alloc, "json")?)?;
         return Ok(());
     };
-    let input = Input::of(alloc, language.as_str())?;
     let count = count.as_str().parse::<usize>().unwrap_or(10);
-    println!(rt; "{}", made(alloc, &input, what.as_str(), count)?)?;
+    println!(rt;
+        "{}",
+        one_made(alloc, language.as_str(), what.as_str(), count)?
+    )?;
     Ok(())
+}
+
+// Makes what a word says, of an input of a language.
+fn one_made(alloc: Global, language: &str, what: &str, count: usize) -> anyhow::Result<String> {
+    let table = table_of(alloc, language)?;
+    let input = Input::of(alloc, language, &table)?;
+    made(alloc, &input, what, count)
 }
 
 // Makes each thing of a short input of a language.
 fn all_made(alloc: Global, language: &str) -> anyhow::Result<String> {
-    let input = Input::of(alloc, language)?;
-    let events = made(alloc, &input, "events", 10)?;
-    let nodes = made(alloc, &input, "nodes", 10)?;
-    let values = made(alloc, &input, "values", 10)?;
+    let events = one_made(alloc, language, "events", 10)?;
+    let nodes = one_made(alloc, language, "nodes", 10)?;
+    let values = one_made(alloc, language, "values", 10)?;
     Ok(format!(in alloc; "{language}: {events}; {nodes}; {values}")?)
 }
 
 // Makes what a word says, and says how much was made.
-fn made(alloc: Global, input: &Input, what: &str, count: usize) -> anyhow::Result<String> {
+fn made(alloc: Global, input: &Input<'_>, what: &str, count: usize) -> anyhow::Result<String> {
     match what {
         "events" => {
             let is_parsed = is_parsed(alloc, input, count, &mut Silent);
@@ -87,8 +95,13 @@ impl SemanticActions for Leaves {
 }
 
 // Whether the input with so many repetitions is parsed.
-fn is_parsed<H: ParseHandler>(alloc: Global, input: &Input, count: usize, handler: &mut H) -> bool {
-    let mut machine = Machine::new(alloc, &input.table, usize::MAX);
+fn is_parsed<H: ParseHandler>(
+    alloc: Global,
+    input: &Input<'_>,
+    count: usize,
+    handler: &mut H,
+) -> bool {
+    let mut machine = Machine::new(alloc, input.table, usize::MAX);
     if !is_read(&mut machine, &input.first, 1, handler) {
         return false;
     }
