@@ -7,7 +7,7 @@ mod actions;
 mod lexer;
 mod messages;
 
-use actions::Numbers;
+use actions::{Fault, Numbers};
 use grammar_text::{name_of, read};
 use lalrpop_tables::{Options, build_states};
 use lexer::{Lexer, Token};
@@ -34,40 +34,51 @@ Factor = \"-\" Factor
 // The steps that a parse may take.
 const LIMIT: usize = 1_000_000;
 
+// Texts that have a value, and texts that have none.
+const TEXTS: [&str; 10] = [
+    "1 + 2 * 3",
+    "2 * (3 + 4) - -1",
+    "7 / 2",
+    "99999999999999999999",
+    "2 * (3 + )",
+    "1 +\n2 3",
+    "(12",
+    "8 / (4 - 2 * 2)",
+    "12 % 5",
+    "9223372036854775807 + 1",
+];
+
 fn main(rt: HostRuntime) -> anyhow::Result<()> {
     let alloc = rt.alloc();
-    let grammar = read(alloc, GRAMMAR)?;
-    let states = build_states(alloc, &grammar, name_of(alloc, "S")?, &Options::default())?;
-    let table = ParseTable::new(alloc, &grammar, &states)?;
-    for text in [
-        "1 + 2 * 3",
-        "2 * (3 + 4) - -1",
-        "7 / 2",
-        "99999999999999999999",
-        "2 * (3 + )",
-        "1 +\n2 3",
-        "(12",
-        "8 / (4 - 2 * 2)",
-        "12 % 5",
-        "9223372036854775807 + 1",
-    ] {
+    let table = table_of(alloc, GRAMMAR)?;
+    for text in TEXTS {
         println!(rt; "{}", answer(alloc, &table, text)?)?;
     }
     Ok(())
 }
 
+// The table of a grammar, which serves any number of texts.
+fn table_of(alloc: Global, grammar: &str) -> anyhow::Result<ParseTable> {
+    let grammar = read(alloc, grammar)?;
+    let states = build_states(alloc, &grammar, name_of(alloc, "S")?, &Options::default())?;
+    Ok(ParseTable::new(alloc, &grammar, &states)?)
+}
+
 // What a text is worth, or what is wrong with it.
 fn answer(alloc: Global, table: &ParseTable, text: &str) -> anyhow::Result<String> {
-    let mut lexer = Lexer::new(alloc);
-    for character in text.chars() {
-        if let Err(fault) = lexer.take(character) {
-            return Ok(fault_text(alloc, &fault)?);
-        }
-    }
-    match lexer.into_tokens() {
+    match tokens_of(alloc, text) {
         Ok(tokens) => parsed(alloc, table, &tokens),
         Err(fault) => Ok(fault_text(alloc, &fault)?),
     }
+}
+
+// The tokens of a text.
+fn tokens_of(alloc: Global, text: &str) -> Result<Vec<Token>, Fault> {
+    let mut lexer = Lexer::new(alloc);
+    for character in text.chars() {
+        lexer.take(character)?;
+    }
+    lexer.into_tokens()
 }
 
 // What tokens are worth, or what is wrong with them.
