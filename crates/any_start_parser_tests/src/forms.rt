@@ -14,6 +14,7 @@ use parse_nodes::error::NodeError;
 use parse_nodes::tree::ParseNodes;
 use parse_tables::table::ParseTable;
 use std::alloc::{AllocError, Global};
+use std::process::Abort;
 use std::test::Fail;
 use table_parser::error::TableParseError;
 use table_parser::expected::expected_after;
@@ -77,16 +78,18 @@ impl ParseHandler for Steps<'_> {
 
 // The lines are E = E + T, E = T and T = x, from 0. With the reduction by the production of the new
 // start symbol, x + x takes 8 steps.
-#[test]
-fn a_handler_takes_the_steps_of_the_old_grammar(rt: HostRuntime) -> Result<(), Fail> {
-    let alloc = rt.alloc();
-    let (table, number) = augmented(alloc)?;
+fn expect_steps(
+    rt: &impl Abort,
+    alloc: Global,
+    table: &ParseTable,
+    number: u32,
+) -> Result<(), Fail> {
     let steps = Steps {
-        table: &table,
+        table,
         all: Vec::new(alloc),
     };
     let mut below = BelowStart::new(steps, number);
-    let parsed = parse_events_from_any(alloc, &table, 8, SUM.iter().copied(), &mut below);
+    let parsed = parse_events_from_any(alloc, table, 8, SUM.iter().copied(), &mut below);
     assert!(rt; parsed.is_ok());
     assert_eq!(rt; below.handler().all.len(), 7);
     let steps = below.into_handler();
@@ -97,65 +100,103 @@ fn a_handler_takes_the_steps_of_the_old_grammar(rt: HostRuntime) -> Result<(), F
 // The nodes of an input, or why there are none.
 fn nodes(
     alloc: Global,
+    table: &ParseTable,
+    number: u32,
     limit: usize,
     bits: &[u32],
-) -> Result<Result<ParseNodes, TableParseError<NodeError>>, Fail> {
-    let (table, number) = augmented(alloc)?;
-    Ok(parse_nodes_from_any(alloc, &table, number, limit, bits.iter().copied()))
+) -> Result<ParseNodes, TableParseError<NodeError>> {
+    parse_nodes_from_any(alloc, table, number, limit, bits.iter().copied())
 }
 
 // The nodes of x + x are x, T, E, +, x, T and E. The root is not that of the new start symbol.
-#[test]
-fn nodes_are_those_of_the_old_tree(rt: HostRuntime) -> Result<(), Fail> {
-    let alloc = rt.alloc();
-    let Ok(tree) = nodes(alloc, 8, &SUM)? else {
+fn expect_nodes(
+    rt: &impl Abort,
+    alloc: Global,
+    table: &ParseTable,
+    number: u32,
+) -> Result<(), Fail> {
+    let Ok(tree) = nodes(alloc, table, number, 8, &SUM) else {
         return Err(Fail::from("no tree"));
     };
     assert_eq!(rt; tree.root(), Some(6));
     let children = tree.children(alloc, 6)?;
     assert_eq!(rt; children.as_slice(), [2, 3, 5].as_slice());
-    assert!(rt; matches!(nodes(alloc, 7, &SUM)?, Err(TableParseError::Limit)));
-    match nodes(alloc, 8, &[1, 1])? {
+    Ok(())
+}
+
+// x + x takes more than 7 steps, and the second token of x x is wrong.
+fn expect_refusals(
+    rt: &impl Abort,
+    alloc: Global,
+    table: &ParseTable,
+    number: u32,
+) -> Result<(), Fail> {
+    assert!(rt;
+        matches!(
+            nodes(alloc, table, number, 7, &SUM),
+            Err(TableParseError::Limit)
+        )
+    );
+    match nodes(alloc, table, number, 8, &[1, 1]) {
         Err(TableParseError::Refused(refusal)) => {
-            assert_eq!(rt; refusal.position, 1);
-            assert_eq!(rt; refusal.bit, 1);
+            assert_eq!(rt; (refusal.position, refusal.bit), (1, 1));
             Ok(())
         }
         _ => Err(Fail::from("a wrong input has a tree")),
     }
 }
 
+// Whether `+`, x and the end are expected after an input.
+fn expected(alloc: Global, table: &ParseTable, bits: &[u32]) -> Result<(bool, bool, bool), Fail> {
+    let Ok(tokens) = expected_after(alloc, table, 100, bits) else {
+        return Err(Fail::from("a right word is refused"));
+    };
+    Ok((
+        tokens.contains_bit(0),
+        tokens.contains_bit(1),
+        tokens.contains_bit(2),
+    ))
+}
+
 // After x there may be `+` or the end. After x + there may be x.
-#[test]
-fn expected_tokens_are_those_of_the_old_grammar(rt: HostRuntime) -> Result<(), Fail> {
-    let alloc = rt.alloc();
-    let (table, _number) = augmented(alloc)?;
-    let Ok(tokens) = expected_after(alloc, &table, 100, &[1]) else {
-        return Err(Fail::from("a right word is refused"));
-    };
-    assert!(rt; tokens.contains_bit(0) && !tokens.contains_bit(1) && tokens.contains_bit(2));
-    let Ok(tokens) = expected_after(alloc, &table, 100, &[1, 0]) else {
-        return Err(Fail::from("a right word is refused"));
-    };
-    assert!(rt; !tokens.contains_bit(0) && tokens.contains_bit(1) && !tokens.contains_bit(2));
+fn expect_tokens(rt: &impl Abort, alloc: Global, table: &ParseTable) -> Result<(), Fail> {
+    assert_eq!(rt; expected(alloc, table, &[1])?, (true, false, true));
+    assert_eq!(rt; expected(alloc, table, &[1, 0])?, (false, true, false));
     Ok(())
 }
 
-// E has two productions, T has one, and U has none.
-#[test]
-fn a_nonterminal_with_one_production_has_its_number(rt: HostRuntime) -> Result<(), Fail> {
-    let alloc = rt.alloc();
-    let (table, _number) = augmented(alloc)?;
-    assert!(rt; only_production(&table, &name_of(alloc, "E")?).is_none());
-    assert!(rt; only_production(&table, &name_of(alloc, "U")?).is_none());
-    let Some(number) = only_production(&table, &name_of(alloc, "T")?) else {
-        return Err(Fail::from("no production"));
+// The line of the only production of a nonterminal.
+fn only_line(alloc: Global, table: &ParseTable, name: &str) -> Result<Option<usize>, Fail> {
+    let Some(number) = only_production(table, &name_of(alloc, name)?) else {
+        return Ok(None);
     };
     match table.productions().get(number as usize) {
-        Some(production) => {
-            assert_eq!(rt; production.action.index(), 2);
-            Ok(())
-        }
+        Some(production) => Ok(Some(production.action.index())),
         None => Err(Fail::from("no production")),
     }
+}
+
+// E has two productions, T has one, and U has none.
+fn expect_only(rt: &impl Abort, alloc: Global, table: &ParseTable) -> Result<(), Fail> {
+    for (name, expected) in [("E", None), ("U", None), ("T", Some(2))] {
+        let line = only_line(alloc, table, name)?;
+        assert_eq!(rt; line, expected, "{name}");
+    }
+    Ok(())
+}
+
+// Tries each call.
+fn expect_all(rt: &impl Abort, alloc: Global, table: &ParseTable, number: u32) -> Result<(), Fail> {
+    expect_steps(rt, alloc, table, number)?;
+    expect_nodes(rt, alloc, table, number)?;
+    expect_refusals(rt, alloc, table, number)?;
+    expect_tokens(rt, alloc, table)?;
+    expect_only(rt, alloc, table)
+}
+
+#[test]
+fn results_are_those_of_the_old_grammar(rt: HostRuntime) -> Result<(), Fail> {
+    let alloc = rt.alloc();
+    let (table, number) = augmented(alloc)?;
+    expect_all(&rt, alloc, &table, number)
 }
