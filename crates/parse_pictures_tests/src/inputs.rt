@@ -11,6 +11,7 @@ use lalrpop_states::lr1_core::state::Lr1State;
 use parse_pictures::expected::{expected_tokens, shifted_count};
 use parse_pictures::refusal::refusal_text;
 use std::alloc::Global;
+use std::process::Abort;
 use std::test::Fail;
 use test_fixtures::texts::grammar;
 
@@ -83,14 +84,24 @@ const MESSAGES: [(&[&str], usize, &str); 6] = [
     (&["NUM"], 2, "the input ends too early; expected:"),
 ];
 
+// Tries each input.
+fn expect_messages(
+    rt: &impl Abort,
+    alloc: Global,
+    grammar: &Grammar,
+    states: &[Lr1State<'_>],
+) -> Result<(), Fail> {
+    for (words, limit, expected) in MESSAGES {
+        let text = message(alloc, grammar, states, words, limit)?;
+        assert_eq!(rt; text.as_str(), expected);
+    }
+    Ok(())
+}
+
 #[test]
 fn messages(rt: HostRuntime) -> Result<(), Fail> {
     let alloc = rt.alloc();
     let grammar = grammar(alloc, SUMS)?;
     let states = states(alloc, &grammar)?;
-    for (words, limit, expected) in MESSAGES {
-        let text = message(alloc, &grammar, &states, words, limit)?;
-        assert_eq!(rt; text.as_str(), expected);
-    }
-    Ok(())
+    expect_messages(&rt, alloc, &grammar, &states)
 }

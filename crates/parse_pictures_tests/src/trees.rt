@@ -5,6 +5,7 @@ use lalrpop_parser::interpret::ParseTree;
 use parse_pictures::graph::tree_graph;
 use parse_pictures::lines::tree_text;
 use std::alloc::Global;
+use std::process::Abort;
 use std::test::Fail;
 use test_fixtures::texts::literal;
 
@@ -37,14 +38,20 @@ const SUM_LINES: &str = "E
   A =
 ";
 
+// Fails unless the lines of a tree are a text.
+fn expect_lines(rt: &impl Abort, alloc: Global, tree: &ParseTree, lines: &str) -> Result<(), Fail> {
+    let text = tree_text(alloc, tree)?;
+    assert_eq!(rt; text.as_str(), lines);
+    Ok(())
+}
+
 #[test]
 fn lines_of_trees(rt: HostRuntime) -> Result<(), Fail> {
     let alloc = rt.alloc();
-    assert_eq!(rt; tree_text(alloc, &sum(alloc)?)?.as_str(), SUM_LINES);
-    assert_eq!(rt; tree_text(alloc, &leaf(alloc, "x")?)?.as_str(), "\"x\"\n");
+    expect_lines(&rt, alloc, &sum(alloc)?, SUM_LINES)?;
+    expect_lines(&rt, alloc, &leaf(alloc, "x")?, "\"x\"\n")?;
     let error = ParseTree::Terminal(TerminalString::Error);
-    assert_eq!(rt; tree_text(alloc, &error)?.as_str(), "error\n");
-    Ok(())
+    expect_lines(&rt, alloc, &error, "error\n")
 }
 
 const SUM_GRAPH: &str = "digraph tree {
@@ -65,33 +72,38 @@ const SUM_GRAPH: &str = "digraph tree {
 }
 ";
 
+// Fails unless the graph of a tree ends with a text.
+fn expect_graph(rt: &impl Abort, alloc: Global, tree: &ParseTree, end: &str) -> Result<(), Fail> {
+    let text = tree_graph(alloc, tree)?;
+    assert!(rt; text.as_str().ends_with(end));
+    Ok(())
+}
+
 #[test]
 fn graphs_of_trees(rt: HostRuntime) -> Result<(), Fail> {
     let alloc = rt.alloc();
-    assert_eq!(rt; tree_graph(alloc, &sum(alloc)?)?.as_str(), SUM_GRAPH);
-    let text = tree_graph(alloc, &leaf(alloc, "\\n\n")?)?;
+    let graph = tree_graph(alloc, &sum(alloc)?)?;
+    assert_eq!(rt; graph.as_str(), SUM_GRAPH);
     let node = "  0 [label=\"\\\"\\\\n\u{240A}\\\"\" shape=plaintext];\n}\n";
-    assert!(rt; text.as_str().ends_with(node));
-    Ok(())
+    expect_graph(&rt, alloc, &leaf(alloc, "\\n\n")?, node)
+}
+
+// The tree of so many nodes, one below the other, over a leaf.
+fn chain(alloc: Global, count: usize) -> Result<ParseTree, Fail> {
+    let mut tree = leaf(alloc, "x")?;
+    for _ in 0..count {
+        tree = over(alloc, "A", tree)?;
+    }
+    Ok(tree)
 }
 
 // No call recurses over a tree, so a tree can be this deep.
 #[test]
 fn deep_trees(rt: HostRuntime) -> Result<(), Fail> {
     let alloc = rt.alloc();
-    let mut tree = leaf(alloc, "x")?;
-    for _ in 0..1_000 {
-        tree = over(alloc, "A", tree)?;
-    }
+    let text = tree_text(alloc, &chain(alloc, 1_000)?)?;
     // A name and the end of a line, and the indentation of 1,000 lines and of the leaf.
-    assert_eq!(rt;
-        tree_text(alloc, &tree)?.as_str().len(),
-        2 * 1_000 + 4 + 1_000 * 1_001
-    );
-    for _ in 0..99_000 {
-        tree = over(alloc, "A", tree)?;
-    }
+    assert_eq!(rt; text.as_str().len(), 2 * 1_000 + 4 + 1_000 * 1_001);
     let end = "  100000 [label=\"\\\"x\\\"\" shape=plaintext];\n  99999 -> 100000;\n}\n";
-    assert!(rt; tree_graph(alloc, &tree)?.as_str().ends_with(end));
-    Ok(())
+    expect_graph(&rt, alloc, &chain(alloc, 100_000)?, end)
 }
