@@ -17,8 +17,7 @@ use std::alloc::Global;
 fn main(rt: HostRuntime) -> anyhow::Result<()> {
     let alloc = rt.alloc();
     let grammar = sums(alloc, &[Nonterminal("Sum"), Literal("+"), Literal("n")])?;
-    let outcome = build_states(alloc, &grammar, name_of(alloc, "S")?, &Options::default());
-    println!(rt; "{}", report_text(alloc, &grammar.terminals, &outcome)?)?;
+    print_tables(&rt, &grammar)?;
     parse_sum(&rt, &grammar)?;
     let ambiguous = sums(
         alloc,
@@ -36,6 +35,16 @@ fn sums(alloc: Global, longer: &[SymbolText<'_>]) -> Result<Grammar, BuilderErro
     builder.add_production("Sum", longer)?;
     builder.add_production("Sum", &[Literal("n")])?;
     builder.finish()
+}
+
+// Prints the tables of a grammar.
+fn print_tables(rt: &HostRuntime, grammar: &Grammar) -> anyhow::Result<()>
+    requires { IsWellFormed grammar.now }
+{
+    let alloc = rt.alloc();
+    let outcome = build_states(alloc, grammar, name_of(alloc, "S")?, &Options::default());
+    println!(rt; "{}", report_text(alloc, &grammar.terminals, &outcome)?)?;
+    Ok(())
 }
 
 // Parses a sum, and prints its tree, or the conflicts of the grammar.
