@@ -1,10 +1,11 @@
 // Values and nodes.
 
-use super::tables::sums;
 use expecting_parser::error::ExpectingError;
 use expecting_parser::nodes::parse_nodes_expecting;
 use expecting_parser::parse::parse_expecting;
+use parse_tables::table::ParseTable;
 use std::alloc::Global;
+use std::process::Abort;
 use std::test::Fail;
 use table_parser::error::TableParseError;
 use table_parser::values::{SemanticActions, ValueError, ValueStack};
@@ -38,42 +39,51 @@ impl SemanticActions for Counts {
 
 // The value of an input, or how it fails: by a refusal before which the end may come, or by an
 // action.
-fn value(alloc: Global, bits: &[u32]) -> Result<&'static str, Fail> {
-    let table = sums(alloc)?;
+fn value(alloc: Global, table: &ParseTable, bits: &[u32]) -> &'static str {
     let mut stack = ValueStack::new(alloc, Counts);
-    match parse_expecting(alloc, &table, 100, bits.iter().copied(), &mut stack) {
+    match parse_expecting(alloc, table, 100, bits.iter().copied(), &mut stack) {
         Ok(()) => match stack.into_value() {
-            Some(1) => Ok("one"),
-            _ => Ok("other"),
+            Some(1) => "one",
+            _ => "other",
         },
-        Err(ExpectingError::Refused(_, Ok(tokens))) if tokens.contains_bit(4) => Ok("refused"),
-        Err(ExpectingError::Failed(TableParseError::Stopped(ValueError::Stopped(_)))) => {
-            Ok("stopped")
+        Err(ExpectingError::Refused(_, Ok(tokens))) if tokens.contains_bit(4) => "refused",
+        Err(ExpectingError::Failed(TableParseError::Stopped(ValueError::Stopped(_)))) => "stopped",
+        _ => "other",
+    }
+}
+
+const VALUES: [(&[u32], &str); 4] = [
+    (&[3], "one"),
+    (&[3, 3], "refused"),
+    (&[3, 2, 3], "stopped"),
+    (&[3, 2], "other"),
+];
+
+/// A handler may make values.
+pub(super) fn expect_values(rt: &impl Abort, alloc: Global, table: &ParseTable) {
+    for (bits, expected) in VALUES {
+        assert_eq!(rt; value(alloc, table, bits), expected);
+    }
+}
+
+/// The nodes of N - N are N, T, E, -, N, T, E and S.
+pub(super) fn expect_nodes(rt: &impl Abort, alloc: Global, table: &ParseTable) -> Result<(), Fail> {
+    match parse_nodes_expecting(alloc, table, 8, [3, 2, 3].iter().copied()) {
+        Ok(tree) => {
+            assert_eq!(rt; tree.root(), Some(7));
+            Ok(())
         }
-        _ => Ok("other"),
+        Err(_) => Err(Fail::from("no tree")),
     }
 }
 
-#[test]
-fn a_handler_may_make_values(rt: HostRuntime) -> Result<(), Fail> {
-    let alloc = rt.alloc();
-    assert_eq!(rt; value(alloc, &[3])?, "one");
-    assert_eq!(rt; value(alloc, &[3, 3])?, "refused");
-    assert_eq!(rt; value(alloc, &[3, 2, 3])?, "stopped");
-    assert_eq!(rt; value(alloc, &[3, 2])?, "other");
-    Ok(())
-}
-
-// The nodes of N - N are N, T, E, -, N, T, E and S.
-#[test]
-fn nodes_are_those_of_the_tree(rt: HostRuntime) -> Result<(), Fail> {
-    let alloc = rt.alloc();
-    let table = sums(alloc)?;
-    match parse_nodes_expecting(alloc, &table, 8, [3, 2, 3].iter().copied()) {
-        Ok(tree) => assert_eq!(rt; tree.root(), Some(7)),
-        Err(_) => return Err(Fail::from("no tree")),
-    }
-    match parse_nodes_expecting(alloc, &table, 8, [3, 2, 2].iter().copied()) {
+/// The third token of N - - is wrong. `(` and N are expected.
+pub(super) fn expect_refusal(
+    rt: &impl Abort,
+    alloc: Global,
+    table: &ParseTable,
+) -> Result<(), Fail> {
+    match parse_nodes_expecting(alloc, table, 8, [3, 2, 2].iter().copied()) {
         Err(ExpectingError::Refused(refusal, Ok(tokens))) => {
             assert_eq!(rt; refusal.position, 2);
             assert!(rt; tokens.contains_bit(0) && tokens.contains_bit(3) && tokens.len() == 2);

@@ -1,6 +1,5 @@
 // Runs while each allocation is refused in turn.
 
-use super::tables::sums;
 use expecting_parser::error::ExpectingError;
 use expecting_parser::names::expected_text;
 use expecting_parser::nodes::parse_nodes_expecting;
@@ -9,6 +8,7 @@ use parse_nodes::error::NodeError;
 use parse_tables::table::ParseTable;
 use refused_growth::attempts::Attempt;
 use std::alloc::Global;
+use std::process::Abort;
 use std::test::Fail;
 use table_parser::error::TableParseError;
 use table_parser::handler::Silent;
@@ -41,19 +41,6 @@ impl Attempt for Refusal<'_> {
     }
 }
 
-#[test]
-fn a_refusal_is_reported_without_expected_tokens(rt: HostRuntime) -> Result<(), Fail> {
-    let alloc = rt.alloc();
-    let table = sums(alloc)?;
-    let mut refusal = Refusal {
-        table: &table,
-        without: 0,
-    };
-    each_growth_refused(alloc, &mut refusal)?;
-    assert!(rt; refusal.without > 0);
-    Ok(())
-}
-
 // A tree.
 #[derive(Drop)]
 struct Tree<'a> {
@@ -71,9 +58,11 @@ impl Attempt for Tree<'_> {
     }
 }
 
-#[test]
-fn a_tree(rt: HostRuntime) -> Result<(), Fail> {
-    let alloc = rt.alloc();
-    let table = sums(alloc)?;
-    each_growth_refused(alloc, &mut Tree { table: &table })
+/// Refuses the allocations of both. A refusal is reported without expected tokens if these cannot be
+/// made.
+pub(super) fn refuse_all(rt: &impl Abort, alloc: Global, table: &ParseTable) -> Result<(), Fail> {
+    let mut refusal = Refusal { table, without: 0 };
+    each_growth_refused(alloc, &mut refusal)?;
+    assert!(rt; refusal.without > 0);
+    each_growth_refused(alloc, &mut Tree { table })
 }

@@ -1,21 +1,21 @@
 // What is reported of inputs, and the names of sets of tokens.
 
-use super::tables::sums;
 use expecting_parser::error::ExpectingError;
 use expecting_parser::names::expected_text;
 use expecting_parser::parse::parse_expecting;
 use lalrpop_base::lookahead::token_set::TokenSet;
+use parse_tables::table::ParseTable;
 use std::alloc::Global;
+use std::process::Abort;
 use std::test::Fail;
 use table_parser::handler::Silent;
 
 // What is reported of an input in so many steps.
-fn report(alloc: Global, bits: &[u32], limit: usize) -> Result<String, Fail> {
-    let table = sums(alloc)?;
-    match parse_expecting(alloc, &table, limit, bits.iter().copied(), &mut Silent) {
+fn report(alloc: Global, table: &ParseTable, bits: &[u32], limit: usize) -> Result<String, Fail> {
+    match parse_expecting(alloc, table, limit, bits.iter().copied(), &mut Silent) {
         Ok(()) => Ok(String::from_str(alloc, "parsed")?),
         Err(ExpectingError::Refused(refusal, Ok(tokens))) => {
-            let names = expected_text(alloc, &table, &tokens)?;
+            let names = expected_text(alloc, table, &tokens)?;
             Ok(format!(in alloc; "{} at {}: {names}", refusal.bit, refusal.position)?)
         }
         Err(ExpectingError::Refused(refusal, Err(error))) => {
@@ -50,31 +50,39 @@ const REPORTS: [(&[u32], usize, &str); 12] = [
     ),
 ];
 
-#[test]
-fn refusals_have_the_expected_tokens(rt: HostRuntime) -> Result<(), Fail> {
-    let alloc = rt.alloc();
+/// Refusals have the expected tokens.
+pub(super) fn expect_reports(
+    rt: &impl Abort,
+    alloc: Global,
+    table: &ParseTable,
+) -> Result<(), Fail> {
     for (bits, limit, expected) in REPORTS {
-        let text = report(alloc, bits, limit)?;
+        let text = report(alloc, table, bits, limit)?;
         assert_eq!(rt; text.as_str(), expected);
     }
     Ok(())
 }
 
 // The names of the tokens with these bits.
-fn names(alloc: Global, bits: &[usize]) -> Result<String, Fail> {
-    let table = sums(alloc)?;
+fn names(alloc: Global, table: &ParseTable, bits: &[usize]) -> Result<String, Fail> {
     let mut tokens = TokenSet::empty_set(alloc);
     for bit in bits {
         tokens.insert_bit(*bit % 5)?;
     }
-    Ok(expected_text(alloc, &table, &tokens)?)
+    Ok(expected_text(alloc, table, &tokens)?)
 }
 
-#[test]
-fn names_are_listed(rt: HostRuntime) -> Result<(), Fail> {
-    let alloc = rt.alloc();
-    assert_eq!(rt; names(alloc, &[])?.as_str(), "");
-    assert_eq!(rt; names(alloc, &[4])?.as_str(), "end of input");
-    assert_eq!(rt; names(alloc, &[3, 0, 2])?.as_str(), "\"(\", \"-\" or \"N\"");
+const NAMES: [(&[usize], &str); 3] = [
+    (&[], ""),
+    (&[4], "end of input"),
+    (&[3, 0, 2], "\"(\", \"-\" or \"N\""),
+];
+
+/// Names are listed.
+pub(super) fn expect_names(rt: &impl Abort, alloc: Global, table: &ParseTable) -> Result<(), Fail> {
+    for (bits, expected) in NAMES {
+        let text = names(alloc, table, bits)?;
+        assert_eq!(rt; text.as_str(), expected);
+    }
     Ok(())
 }

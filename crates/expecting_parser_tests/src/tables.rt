@@ -1,19 +1,46 @@
-// The table of a grammar of sums.
+// The table of a grammar of sums, and all that is tried with it.
 
+use super::forms::{expect_nodes, expect_refusal, expect_values};
+use super::growths::refuse_all;
+use super::reports::{expect_names, expect_reports};
 use grammar_text::symbols::name_of;
 use lalrpop_tables::build::options::Options;
 use lalrpop_tables::lr1::build_states;
 use parse_tables::table::ParseTable;
 use std::alloc::Global;
+use std::process::Abort;
 use std::test::Fail;
 use test_fixtures::texts::{SUMS, grammar};
 
-/// The table of sums. The bits of `(`, `)`, `-` and `N` are 0 to 3, and that of the end is 4.
-/// States are merged: each reduces on `)` after an `N` without parentheses, too.
-pub fn sums(alloc: Global) -> Result<ParseTable, Fail> {
+// The table of sums. The bits of `(`, `)`, `-` and `N` are 0 to 3, and that of the end is 4.
+// States are merged: each reduces on `)` after an `N` without parentheses, too.
+fn sums(alloc: Global) -> Result<ParseTable, Fail> {
     let grammar = grammar(alloc, SUMS)?;
     let Ok(states) = build_states(alloc, &grammar, name_of(alloc, "S")?, &Options::default()) else {
         return Err(Fail::from("no tables"));
     };
     Ok(ParseTable::new(alloc, &grammar, &states)?)
+}
+
+// Tries each call.
+fn expect_all(rt: &impl Abort, alloc: Global, table: &ParseTable) -> Result<(), Fail> {
+    expect_values(rt, alloc, table);
+    expect_nodes(rt, alloc, table)?;
+    expect_refusal(rt, alloc, table)?;
+    expect_reports(rt, alloc, table)?;
+    expect_names(rt, alloc, table)
+}
+
+#[test]
+fn inputs(rt: HostRuntime) -> Result<(), Fail> {
+    let alloc = rt.alloc();
+    let table = sums(alloc)?;
+    expect_all(&rt, alloc, &table)
+}
+
+#[test]
+fn refused_allocations(rt: HostRuntime) -> Result<(), Fail> {
+    let alloc = rt.alloc();
+    let table = sums(alloc)?;
+    refuse_all(&rt, alloc, &table)
 }
