@@ -5,7 +5,7 @@ import sys
 COMMANDS = {
     "whole": ("gate.whole", "runs the whole gate, as .ci/run does"),
     "test": ("gate.tests", "tests the gate's own modules"),
-    "mutants": ("gate.mutants.command", "tries the mutants that changed, and 60 others"),
+    "mutants": ("gate.mutants.command", "tries the mutants that changed, and 20 others"),
     "borrows": ("gate.borrows", "tries a view that outlives its grammar, which must not compile"),
     "quotes": ("gate.quotes", "compares what pages quote from the sources with the sources"),
     "pages": ("gate.pages", "checks the form of the pages: widths, terms and links"),

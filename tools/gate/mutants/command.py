@@ -5,7 +5,7 @@ crates/CRATE/mutants/MODULE/NAME.edit that turns the meaning of a function.
 
 Tried are the mutants whose basis changed since their last refusal: the mutant itself, the function,
 its contract, its proof files, the contracts of the functions that it calls, and the definitions and
-types that these contracts name. The ledgers crates/CRATE/mutants/ledger.txt hold the checksums. 60
+types that these contracts name. The ledgers crates/CRATE/mutants/ledger.txt hold the checksums. 20
 others are tried too, chosen by the hash of the commit.
 
   --all       tries all mutants
@@ -40,7 +40,7 @@ from gate.mutants.since import still_refused
 from gate.mutants.trial import Trial
 
 # How many mutants are tried of which nothing changed.
-OTHERS = 60
+OTHERS = 20
 # How many crates are tried side by side at most, and the memory for each, in kilobytes.
 LANES, EACH = 3, 6_000_000
 
