@@ -130,7 +130,7 @@ fn methods_have_different_tables(rt: HostRuntime) -> Result<(), Fail> {
         let (out, length, status) = called(alloc, TWO_CONTEXTS.as_bytes(), b"S", canonical, 1000)?;
         assert_eq!(rt; status, 0);
         assert!(rt; length < 1000);
-        assert_eq!(rt; out[7], states);
+        assert!(rt; out.get(7) == Some(&states));
     }
     Ok(())
 }
