@@ -1,4 +1,5 @@
 // The worked example of `docs/FORMATS.md`, and tables that come back.
+ghost use Rattle.lalrpop_base.specs.Words.{IsWellFormed};
 
 use grammar_text::symbols::name_of;
 use lalrpop_base::lr1_core::state::Lr1State;
@@ -20,11 +21,13 @@ pub(crate) const NUMBERS: [u32; 35] = [
     1, 1, 0, 0, 0, 1, 0, 0,
 ];
 
-/// The states of a grammar with the start symbol S.
+/// The states of a well-formed grammar with the start symbol S.
 pub(crate) fn states_of<'g>(
     alloc: Global,
     grammar: &'g Grammar,
-) -> Result<Vec<Lr1State<'g>>, Fail> {
+) -> Result<Vec<Lr1State<'g>>, Fail>
+    requires { IsWellFormed grammar.now }
+{
     match build_states(alloc, grammar, name_of(alloc, "S")?, &Options::default()) {
         Ok(states) => Ok(states),
         Err(_) => Err(Fail::from("no tables")),

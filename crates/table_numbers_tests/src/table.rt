@@ -64,7 +64,10 @@ fn a_table_of_numbers_is_that_of_the_states(rt: HostRuntime) -> Result<(), Fail>
     let direct = ParseTable::new(alloc, &grammar, &states)?;
     let table = read_table(alloc, &grammar, &numbers)?;
     assert!(rt; states.len() > 8 && direct.action(0, 0) != direct.action(0, 1));
-    assert!(rt; are_alike(&table, &direct, states.len() as u32));
+    let Ok(count) = u32::try_from(states.len()) else {
+        return Err(Fail::from("more states than numbers of 32 bits"));
+    };
+    assert!(rt; are_alike(&table, &direct, count));
     Ok(())
 }
 
