@@ -5,9 +5,11 @@
  * question with a single word asks for the tables with that start symbol, as numbers. This program is
  * linked so that the library calls the functions below in the place of malloc, realloc and free. Each
  * such call must free all that it took, and return LR1_NO_MEMORY. If only one allocation is refused, it
- * may also return the right answer, since a list that finds no room to spare grows by less.
+ * may also return the right answer, since a list that finds no room to spare grows by less. So it may
+ * if all that was refused is that blocks become smaller, since a call can keep the larger blocks.
  */
 #include "questions.h"
+#include <malloc.h>
 
 enum { ROOM = 1 << 20 };
 static const long NONE = 1L << 40;
@@ -20,28 +22,31 @@ void *__wrap_realloc(void *, size_t);
 void __wrap_free(void *);
 
 /* The blocks that are taken, the allocations made, the one that is refused, and whether all after it
- * are, too. */
+ * are, too. Of the refused ones, how many were to give more bytes than there were. */
 static struct {
-    long blocks, made, refused;
+    long blocks, made, refused, missed;
     bool all_after;
 } memory;
 
-static bool is_refused(void)
+static bool is_refused(bool gives_more)
 {
     long number = memory.made++;
-    return memory.all_after ? number >= memory.refused : number == memory.refused;
+    bool it = memory.all_after ? number >= memory.refused : number == memory.refused;
+    memory.missed += it && gives_more;
+    return it;
 }
 
 void *__wrap_malloc(size_t size)
 {
-    void *it = is_refused() ? NULL : __real_malloc(size);
+    void *it = is_refused(true) ? NULL : __real_malloc(size);
     memory.blocks += it != NULL;
     return it;
 }
 
 void *__wrap_realloc(void *block, size_t size)
 {
-    void *it = is_refused() ? NULL : __real_realloc(block, size);
+    bool gives_more = block == NULL || size > malloc_usable_size(block);
+    void *it = is_refused(gives_more) ? NULL : __real_realloc(block, size);
     memory.blocks += block == NULL && it != NULL;
     return it;
 }
@@ -87,7 +92,7 @@ static bool are_equal(const struct answer *a, const struct answer *b, const stru
 /* Asks while an allocation is refused, or none if the number is large. */
 static void ask(struct answer *to, const struct question *it, size_t number, long refused, bool all_after)
 {
-    memory.blocks = memory.made = 0;
+    memory.blocks = memory.made = memory.missed = 0;
     memory.refused = refused;
     memory.all_after = all_after;
     to->status = called(to, it);
@@ -114,7 +119,7 @@ static void refuse_each(const struct question *it, size_t number, bool all_after
         bool is_right = are_equal(&other, &right, it);
         if (other.status == LR1_NO_MEMORY)
             counts.reported++;
-        else if (all_after || !is_right) {
+        else if ((all_after && memory.missed > 0) || !is_right) {
             printf("allocation %ld of %ld was refused%s; ", refused, count, all_after ? ", with all after it" : "");
             fault(number, is_right ? "it was not reported" : "it was not reported, and the answer is another one");
         }
