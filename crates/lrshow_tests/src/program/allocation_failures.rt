@@ -60,8 +60,9 @@ fn each_growth_refused(
 ) -> Result<(), Fail> {
     let (wanted, remark, got) = ran_by(alloc, method, Some(text.as_bytes()), line)?;
     assert_eq!(rt; got, status);
+    let words = words_of(alloc, line)?;
     let mut program = Program {
-        words: &words_of(alloc, line)?,
+        words: &words,
         method,
         text,
         wanted: &wanted,

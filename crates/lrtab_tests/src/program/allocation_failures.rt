@@ -66,8 +66,9 @@ fn each_growth_refused(
     wanted: &str,
     status: u8,
 ) -> Result<(), Fail> {
+    let words = words_of(alloc, line)?;
     let mut program = Program {
-        words: &words_of(alloc, line)?,
+        words: &words,
         method,
         text,
         wanted,
