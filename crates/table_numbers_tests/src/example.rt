@@ -22,10 +22,7 @@ pub(crate) const NUMBERS: [u32; 35] = [
 ];
 
 /// The states of a well-formed grammar with the start symbol S.
-pub(crate) fn states_of<'g>(
-    alloc: Global,
-    grammar: &'g Grammar,
-) -> Result<Vec<Lr1State<'g>>, Fail>
+pub(crate) fn states_of<'g>(alloc: Global, grammar: &'g Grammar) -> Result<Vec<Lr1State<'g>>, Fail>
     requires { IsWellFormed grammar.now }
 {
     match build_states(alloc, grammar, name_of(alloc, "S")?, &Options::default()) {
