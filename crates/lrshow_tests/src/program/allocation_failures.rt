@@ -24,6 +24,11 @@ struct Program<'a> {
     err: Vec<u8>,
 }
 
+// Whether bytes are as expected.
+fn are_equal(bytes: &[u8], expected: &[u8]) -> bool {
+    bytes == expected
+}
+
 impl Attempt for Program<'_> {
     fn attempt(&mut self, alloc: Global) -> Option<bool> {
         self.out.clear();
@@ -39,10 +44,10 @@ impl Attempt for Program<'_> {
             &mut self.err,
         );
         if status == 3 {
-            let told = self.out.is_empty() && self.err.as_slice() == b"out of memory\n".as_slice();
+            let told = self.out.is_empty() && are_equal(&self.err, b"out of memory\n");
             return if told { None } else { Some(false) };
         }
-        let expected = self.out.as_slice() == self.wanted && self.err.as_slice() == self.remark;
+        let expected = are_equal(&self.out, self.wanted) && are_equal(&self.err, self.remark);
         Some(expected && status == self.status)
     }
 }
