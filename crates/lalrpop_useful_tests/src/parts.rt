@@ -65,7 +65,9 @@ fn reached(alloc: Global, grammar: &Grammar, start: &str) -> Result<String, Fail
 }
 
 // The names without a production, each with the production that uses it.
-fn undefined(alloc: Global, grammar: &Grammar) -> Result<String, Fail> {
+fn undefined(alloc: Global, grammar: &Grammar) -> Result<String, Fail>
+    requires { IsWellFormed grammar.now }
+{
     let mut text = String::new(alloc);
     for undefined in &undefined_names(alloc, grammar)? {
         write!(text, "{} in {}; ", undefined.name(), undefined.user())?;
