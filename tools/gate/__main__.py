@@ -20,6 +20,7 @@ COMMANDS = {
     "growths": ("gate.growths", "asks each public call while memory ends in it"),
     "case-files": ("gate.case_files", "tries lalrpop_bench on faulty case files"),
     "callers": ("gate.callers.command", "calls the library for C from C, Rust and Python"),
+    "generated": ("gate.generated.command", "compiles generated parsers in C, Rust and Python, and asks them"),
     "page": ("gate.page", "tries the pages of lrshow in Chromium; .ci/run does not call it"),
 }
 

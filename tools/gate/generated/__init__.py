@@ -1,0 +1,1 @@
+"""The files that parse by LR(1) tables, compiled and run on the stored cases."""
