@@ -33,6 +33,7 @@ AFTER = (
     ("growths refused in turn", "growths"),
     ("case files with faults", "case-files"),
     ("calls from C, Rust and Python", "callers"),
+    ("generated parsers in C, Rust and Python", "generated"),
 )
 # Minutes by the clock for a number of processors or more, and minutes of processor time.
 CLOCK, PROCESSORS = {4: 110, 0: 130}, 200

@@ -61,7 +61,7 @@ def text_of(packed, method, prefix="lr"):
         *texts("nonterminal_texts", "the name of a nonterminal", map(quoted, tables.nonterminals)),
         *[line for it in arrays_of(packed) for line in array(it)],
         *read("lookup_small.c" if packed.is_small else "lookup.c"), "",
-        *read("access.c"), "", *read("driver.c"), "",
+        *read("interface.c"), "", *read("driver.c"), "",
         "#endif",
     ]
     usage = [it.replace("lr_", f"{prefix}_").replace("LR_", f"{prefix.upper()}_") for it in USAGE]

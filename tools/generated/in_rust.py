@@ -51,7 +51,7 @@ def text_of(packed, method):
         *([] if packed.is_small else ["/// how many bytes a set has", f"const SET_BYTES: usize = {packed.set_bytes};", ""]),
         *[line for it in arrays_of(packed) for line in array(it)],
         *read("lookup_small.rs" if packed.is_small else "lookup.rs"), "",
-        *read("access.rs"), "",
+        *read("interface.rs"), "",
         *read("driver.rs"),
     ]
     head = commented(heading(packed, method, USAGE), "//")

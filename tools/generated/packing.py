@@ -20,17 +20,31 @@ class Rows:
 
 def starts_of(rows):
     """Where rows begin. Those with more cells come first. Each begins at the first place at which no
-    other row begins, and from which on its cells are free."""
-    starts, used, begun = [0] * len(rows), 0, 0
+    other row begins, and from which on its cells are free. Sets of places are numbers, by their bits."""
+    starts, begun = [0] * len(rows), 0
+    full, rest = 0, 0  # the first so many cells are used, and `rest` has the cells after them
     for number in sorted(range(len(rows)), key=lambda it: -len(rows[it])):
-        taken = begun
-        for column, _ in rows[number]:
-            taken |= used >> column
-        start = (~taken & (taken + 1)).bit_length() - 1
+        columns = [column for column, _ in rows[number]]
+        low = max(0, full - max(columns, default=full))
+        taken = begun >> low
+        for it in columns:
+            taken |= shifted(rest, full - low - it)
+        start = low + first_free(taken)
         starts[number], begun = start, begun | 1 << start
-        for column, _ in rows[number]:
-            used |= 1 << (start + column)
+        for it in columns:
+            rest |= 1 << (start + it - full)
+        full, rest = full + first_free(rest), rest >> first_free(rest)
     return starts
+
+
+def first_free(places):
+    """The first place that is none of a set."""
+    return (~places & (places + 1)).bit_length() - 1
+
+
+def shifted(places, up):
+    """The places of a set that is shifted up, with all places before, or down."""
+    return places << up | (1 << up) - 1 if up > 0 else places >> -up
 
 
 class Packed:

@@ -52,10 +52,10 @@ macro_rules! by {
         }
 
         fn shown(terminal: Terminal) -> String {
-            match terminal {
-                Terminal::End => "Eof".to_string(),
-                other => format!("\"{}\"", other.text()),
+            if terminal == Terminal::End {
+                return "Eof".to_string();
             }
+            format!("\"{}\"", terminal.text())
         }
 
         fn pushed(terminals: &[Terminal], to: &mut Trees, limit: usize) -> Result<bool, Error<()>> {

@@ -5,7 +5,7 @@ small ones, by the generator in tools/generated. It compiles them, without a war
 cases by them: the tree, or the refused token with its position and the expected tokens, or the limit.
 The texts are those of the cases. The positions and the expected tokens are those of a model, which
 runs by the data of `lrshow`. If the start symbol is on a right side, the grammar gets a new one, and
-all is that of the model.
+all is that of the model. The calculators of examples/calculator are tried, too.
 PROGRAM is crates/lrshow/out/lrshow, which `rt ci` and `rt run` leave there. CASES is the folder
 crates/lrtab/cases. Others can be given. A language whose compiler is not on the path is left out. The
 status is 0 if all agree, there are some, and `rustfmt` and `black` leave the files as they are.
@@ -13,6 +13,7 @@ status is 0 if all agree, there are some, and `rustfmt` and `black` leave the fi
 import tempfile
 
 from gate.callers.parts import Failed, lacks, ran
+from gate.generated import examples
 from gate.generated.languages import LANGUAGES, answers
 from gate.generated.questions import Found, answer_of, line_of
 from gate.programs import arguments, program_of
@@ -47,14 +48,25 @@ def tried(name, found, rows, lines, room):
     return not faults
 
 
+def tried_examples(program, room):
+    try:
+        faults = examples.faults_of(program, room)
+    except Failed as why:
+        faults = [str(why)]
+    print(*faults, f"calculators: {len(faults)} faults", sep="\n")
+    return not faults
+
+
 def main(words):
     program, folder = arguments(words, __doc__, None, CASES)
     cases, grammars = read_cases(folder)
-    found = Found(program_of("lrshow", program), [it for it in cases if kind_of(it) == "parse"], grammars)
+    program = program_of("lrshow", program)
+    found = Found(program, [it for it in cases if kind_of(it) == "parse"], grammars)
     rows = [(made, it) for made in found.made for it in made.questions]
     lines = [line_of(number, made, it) for number, made in enumerate(found.made) for it in made.questions]
     print(*found.faults, f"files: {len(found.made)} for each language", sep="\n")
     print(*[f"without a file: {count} {what}" for what, count in sorted(found.without.items())], sep="\n")
     with tempfile.TemporaryDirectory(prefix="generated-") as room:
         is_right = [tried(name, found, rows, lines, f"{room}/{name}") for name in LANGUAGES]
+        is_right.append(tried_examples(program, room))
     return 0 if all(is_right) and lines and not found.faults else 1

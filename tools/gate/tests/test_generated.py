@@ -49,6 +49,12 @@ ARRAYS = {
 CELLS = {"start": [0, 2, 1, 3, 1], "column": [3, 1, 0, 3, 1, 3], "cell": [0, 6, 7, 0, 8, 0]}
 # With `S` as a new start symbol and E as the old one, state 1 accepts: its cell of the end has 3.
 HIDDEN = {"start": [0, 1, 3, 2, 3], "cell": [0, 5, 6, 3, 0, 0]}
+# Literals that a language, a comment, a literal of a string or a name might take for something else.
+HOSTILE = sorted([
+    "if", "IF", "int", "class", "fn", "self", "Self", "None", "True", "__init__", "mro", "end", "END", "1", "1a", "_", "__",
+    "*/", "/*", "//", "#", "\\", "\\n", "'", "??/", "??=", "{{}}", "%s", "\x01", "\r", "\x0b", "\x7f", "\x85",
+    "é", "\u2028", "\u202e", "\ufeff", "\U0001f600", "x" * 300, "lr_row", "LR_T_END", "Terminal",
+], key=str.encode)
 TREE = '[S: [E: [E: "n"], "-", "n"]]'
 QUESTIONS = (
     (9, ["n", "-", "n"], True, Outcome(TREE)),
@@ -60,6 +66,23 @@ QUESTIONS = (
     (9, ["n", "-"], False, Outcome("goes on")),
     (0, [], True, Outcome("refused at Eof", 0, [])),
 )
+
+
+def hostile_data():
+    """The data of a nonterminal with a production for each hostile literal."""
+    numbers = range(len(HOSTILE))
+    states = [state(it + 1, {}, {}, (it, 0)) for it in numbers]
+    productions = [{"number": it, "nonterminal": "self", "symbols": [{"terminal": HOSTILE[it]}]} for it in numbers]
+    shifts = state(0, {text: it + 1 for it, text in enumerate(HOSTILE)}, {})
+    how = {"start": "self", "terminals": HOSTILE, "sets": [[None]], "conflicts": []}
+    return {**how, "productions": productions, "states": [shifts, *states]}
+
+
+def hostile_questions():
+    """Each literal is a sentence, and after it only the end is expected."""
+    sentences = [Question("case", 9, [it], True, Outcome(f'[self: "{it}"]')) for it in HOSTILE]
+    wrong = [Question("case", 9, [it, it], True, Outcome(f'refused at "{it}"', 1, ["Eof"])) for it in HOSTILE]
+    return [*sentences, *wrong, Question("case", 9, [], True, Outcome("refused at Eof", 0, [f'"{it}"' for it in HOSTILE]))]
 
 
 class NamesOfConstants(unittest.TestCase):
@@ -203,6 +226,7 @@ class Answers(unittest.TestCase):
             Made("exact", Packed(Tables(DIFFERENCES), False), "lane", None, rows),
             Made("small", Packed(Tables(DIFFERENCES), True), "lane", None, small),
             Made("hidden", Packed(Tables(DIFFERENCES, "S"), False), "lane", None, old),
+            Made("hostile", Packed(Tables(hostile_data()), False), "lane", None, hostile_questions()),
         ]
         lines = [line_of(number, it, one) for number, it in enumerate(made) for one in it.questions]
         expected = [answer_of(one.expected) for it in made for one in it.questions]

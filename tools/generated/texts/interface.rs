@@ -61,3 +61,37 @@ impl<Stop> Error<Stop> {
         }
     }
 }
+
+/// A run that is given one terminal after the other.
+#[derive(Clone, Debug)]
+pub struct Run {
+    stack: Vec<Entry>,
+    at: At,
+}
+
+impl Run {
+    /// A run that makes at most so many steps: each shift and each reduction is one.
+    pub fn new(limit: Option<usize>) -> Run {
+        let (stack, left) = (Vec::new(), limit.unwrap_or(usize::MAX));
+        #[rustfmt::skip]
+        let at = At { state: 0, depth: 0, fresh: 0, position: 0, left };
+        Run { stack, at }
+    }
+
+    /// Reads a terminal, or the end of the input. Returns whether the input is accepted. After a
+    /// refusal the run is as before. But the handler may have taken reductions.
+    pub fn push<H: Handler>(
+        &mut self,
+        token: Terminal,
+        to: &mut H,
+    ) -> Result<bool, Error<H::Stop>> {
+        let next = self.at.push(&mut self.stack, token, to)?;
+        self.at = next.unwrap_or(self.at);
+        Ok(next.is_none())
+    }
+
+    /// The terminals that may come next in the steps that are left, each after a trial.
+    pub fn expected(&mut self) -> Vec<Terminal> {
+        self.at.expected(&mut self.stack)
+    }
+}
