@@ -8,6 +8,7 @@ other reasons.
 """
 import argparse
 import json
+import re
 import sys
 
 from generated import in_c, in_python, in_rust
@@ -32,6 +33,8 @@ def main(words):
     parser.add_argument("--augmented", action="store_true")
     parser.add_argument("--prefix", default="lr")
     it = parser.parse_args(words)
+    if not re.fullmatch(r"[A-Za-z_][A-Za-z0-9_]*", it.prefix):
+        parser.error(f"{it.prefix} is not a name")
     try:
         text = text_of(json.load(sys.stdin), it.language, it.method, it.small, it.augmented, it.prefix)
     except NoTables as why:

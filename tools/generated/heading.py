@@ -17,7 +17,7 @@ def heading(packed, method, usage):
         "",
         f"Start symbol: {tables.start}. Method: {method}. Conflicts: none. States: {len(tables.states)}.",
         *(SMALL if packed.is_small else EXACT),
-        *usage,
+        usage,
     ]
 
 

@@ -1,73 +1,78 @@
 """The header for C."""
-import os
-
 from generated.arrays import arrays_of
 from generated.heading import commented, heading
-from generated.layout import bits_of, number_lines, production_text, visible
+from generated.layout import bits_of, number_lines, production_text, symbol_text
 from generated.names import Names, upper
+from generated.texts import read
 
-TEXTS = f"{os.path.dirname(os.path.realpath(__file__))}/texts"
-USAGE = ["Include it, in one file of a program. All its names begin with lr_ or LR_."]
-
-
-def read(name):
-    with open(f"{TEXTS}/{name}", encoding="utf-8") as it:
-        return it.read().splitlines()
+PLAIN = {ord(it) for it in map(chr, range(32, 127)) if it not in '"\\?'}
 
 
 def quoted(text):
     """A text as a literal of C. A question mark has a backslash, since two may begin a trigraph."""
-    plain = {ord(it) for it in map(chr, range(32, 127)) if it not in '"\\?'}
-    return '"' + "".join(
-        chr(it) if it in plain else f"\\{chr(it)}" if chr(it) in '"\\?' else f"\\{it:03o}" for it in text.encode()
-    ) + '"'
+    shown = (chr(it) if it in PLAIN else f"\\{chr(it)}" if chr(it) in '"\\?' else f"\\{it:03o}" for it in text.encode())
+    return f'"{"".join(shown)}"'
 
 
-def enumeration(kind, letter, names, texts, comment):
-    members = [f"    LR_{letter}_{name}," for name in names]
-    members[-1] = members[-1][:-1]
-    lines = [f"{it} // {text}" for it, text in zip(members, texts)]
-    return [f"// {comment}", "typedef enum {", *lines, f"}} lr_{kind};", ""]
+class Header:
+    """The parts of the header, by lines. All names begin with one prefix, in small letters or capitals."""
 
+    def __init__(self, packed, prefix):
+        self.packed, self.tables = packed, packed.tables
+        self.small, self.big = f"{prefix}_", f"{prefix.upper()}_"
+        self.names = Names(packed.tables, upper, "__")
 
-def array(it):
-    bits = bits_of(it.numbers)
-    head = f"static const uint{bits}_t lr_{it.name}[] = {{"
-    return [f"// {it.comment}", head, *number_lines(it.numbers, "    "), "};", ""]
+    def fixed(self, name):
+        """The lines of a fixed text, which has the prefix lr."""
+        return [it.replace("lr_", self.small).replace("LR_", self.big) for it in read(name)]
 
+    def enumeration(self, kind, letter, names, texts):
+        members = [f"    {self.big}{letter}_{it}," for it in names]
+        members[-1] = members[-1][:-1]
+        lines = [f"{it} // {text}" for it, text in zip(members, texts)]
+        return ["typedef enum {", *lines, f"}} {self.small}{kind};", ""]
 
-def texts(name, comment, lines):
-    return [f"// {comment}", f"static const char *const lr_{name}[] = {{", *[f"    {it}," for it in lines], "};", ""]
+    def enumerations(self):
+        tables, names = self.tables, self.names
+        terminals = [*[symbol_text((True, it)) for it in tables.terminals], "the end of the input"]
+        return [
+            *self.enumeration("terminal", "T", names.terminals, terminals),
+            *self.enumeration("nonterminal", "N", names.nonterminals, tables.nonterminals),
+            *self.enumeration("production", "P", names.productions, map(production_text, tables.productions)),
+        ]
+
+    def counts(self):
+        rows = [("TERMINALS", self.tables.end + 1), ("PRODUCTIONS", self.packed.production_count)]
+        rows += [] if self.packed.is_small else [("SET_BYTES", self.packed.set_bytes)]
+        lines = [f"    {self.big}{name} = {number}" for name, number in rows]
+        return ["enum {", *[f"{it}," for it in lines[:-1]], lines[-1], "};", ""]
+
+    def texts(self, name, comment, texts):
+        head = f"static const char *const {self.small}{name}[] = {{"
+        return [f"// {comment}", head, *[f"    {quoted(it)}," for it in texts], "};", ""]
+
+    def array(self, it):
+        head = f"static const uint{bits_of(it.numbers)}_t {self.small}{it.name}[] = {{"
+        return [f"// {it.comment}", head, *number_lines(it.numbers, "    "), "};", ""]
+
+    def lines(self):
+        return [
+            f"#ifndef {self.big}TABLES", f"#define {self.big}TABLES", "",
+            "#include <stddef.h>", "#include <stdint.h>", "",
+            *self.enumerations(),
+            *self.counts(),
+            *self.texts("terminal_texts", "the text of a terminal", [*self.tables.terminals, "end of input"]),
+            *self.texts("nonterminal_texts", "the name of a nonterminal", self.tables.nonterminals),
+            *[line for it in arrays_of(self.packed) for line in self.array(it)],
+            *self.fixed("lookup_small.c" if self.packed.is_small else "lookup.c"), "",
+            *self.fixed("interface.c"), "",
+            *self.fixed("driver.c"), "",
+            "#endif",
+        ]
 
 
 def text_of(packed, method, prefix="lr"):
     """The whole file."""
-    tables, names = packed.tables, Names(packed.tables, upper, "__")
-    terminals = [*[f'"{visible(it)}"' for it in tables.terminals], "the end of the input"]
-    productions = map(production_text, tables.productions)
-    lines = [
-        "#ifndef LR_TABLES", "#define LR_TABLES", "", "#include <stddef.h>", "#include <stdint.h>", "",
-        *enumeration("terminal", "T", names.terminals, terminals, "The terminals, and the end of the input."),
-        *enumeration("nonterminal", "N", names.nonterminals, tables.nonterminals, "The nonterminals."),
-        *enumeration("production", "P", names.productions, productions, "The productions."),
-        "enum {",
-        f"    LR_TERMINALS = {tables.end + 1},",
-        f"    LR_NONTERMINALS = {len(tables.nonterminals)},",
-        f"    LR_PRODUCTIONS = {packed.production_count},",
-        f"    LR_STATES = {len(tables.states)}" + ("" if packed.is_small else ","),
-        *([] if packed.is_small else [f"    LR_SET_BYTES = {packed.set_bytes}"]),
-        "};", "",
-        *texts("terminal_texts", "the text of a terminal", [*map(quoted, tables.terminals), '"end of input"']),
-        *texts("nonterminal_texts", "the name of a nonterminal", map(quoted, tables.nonterminals)),
-        *[line for it in arrays_of(packed) for line in array(it)],
-        *read("lookup_small.c" if packed.is_small else "lookup.c"), "",
-        *read("interface.c"), "", *read("driver.c"), "",
-        "#endif",
-    ]
-    usage = [it.replace("lr_", f"{prefix}_").replace("LR_", f"{prefix.upper()}_") for it in USAGE]
-    head = commented(heading(packed, method, usage), "//")
-    return "".join(f"{it}\n" for it in [*head, "", *prefixed(lines, prefix)])
-
-
-def prefixed(lines, prefix):
-    return lines if prefix == "lr" else [it.replace("lr_", f"{prefix}_").replace("LR_", f"{prefix.upper()}_") for it in lines]
+    header = Header(packed, prefix)
+    usage = f"Include it. All its names begin with {header.small} or {header.big}."
+    return "".join(f"{it}\n" for it in [*commented(heading(packed, method, usage), "//"), "", *header.lines()])

@@ -1,11 +1,11 @@
 """The module for Python."""
 from generated.arrays import arrays_of
 from generated.heading import commented, heading
-from generated.in_c import read
 from generated.layout import number_lines, production_text, visible
 from generated.names import Names, upper
+from generated.texts import read
 
-USAGE = ["Import it. It needs Python 3.9 and no other package."]
+USAGE = "Import it. It needs Python 3.9 and no other package."
 
 
 def quoted(text):

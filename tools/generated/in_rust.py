@@ -1,11 +1,11 @@
 """The module for Rust."""
 from generated.arrays import arrays_of
 from generated.heading import commented, heading
-from generated.in_c import read
 from generated.layout import bits_of, number_lines, production_text, visible
 from generated.names import Names, camel
+from generated.texts import read
 
-USAGE = ["Declare it as a module. It needs no crate but core and alloc."]
+USAGE = "Declare it as a module. It needs no crate but core and alloc."
 DERIVED = "#[derive(Clone, Copy, Debug, PartialEq, Eq, PartialOrd, Ord, Hash)]"
 
 

@@ -23,7 +23,7 @@ from gate.replay.lrtab import CASES, kind_of, read_cases
 SHOWN = 10
 
 
-def faults_of(found, got, rows):
+def faults_of(got, rows):
     """The answers that are wrong."""
     if len(got) != len(rows):
         return [f"{len(got)} answers to {len(rows)} questions"]
@@ -38,7 +38,7 @@ def tried(name, found, rows, lines, room):
         print(f"{name}: {left_out}")
         return True
     try:
-        faults, said = faults_of(found, answers(found.made, lines, build, room), rows), "form not tried"
+        faults, said = faults_of(answers(found.made, lines, build, room), rows), "form not tried"
         if form and not lacks(*form[0]):
             ran(*form[1], *[f"t{it}.{form[2]}" for it in range(len(found.made))], folder=room)
             said = f"{form[0][0]} leaves them as they are"

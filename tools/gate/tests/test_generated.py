@@ -6,15 +6,19 @@ import subprocess
 import sys
 import tempfile
 import unittest
+from unittest import mock
 
 from generated import in_c, in_python, in_rust, layout, names
 from generated.__main__ import text_of
 from generated.packing import Packed, Rows, check
 from generated.tables import NoTables, Tables
 from gate.files import ROOT, write
+from gate.generated import command, examples
 from gate.generated.languages import LANGUAGES, answers
 from gate.generated.model import Model, Outcome
 from gate.generated.questions import ENOUGH, Made, Question, answer_of, line_of
+from gate.tests.programs import CommandTest
+from gate.tests.test_replay import by_lrshow
 
 
 def symbols(*words):
@@ -186,7 +190,9 @@ class Files(unittest.TestCase):
             self.assertTrue(exact.isascii() and max(map(len, exact.splitlines())) <= 120)
             self.assertLess(len(small), len(exact))
         self.assertIn("calc_parse", text_of(DIFFERENCES, "c", "lane", prefix="calc"))
-        self.assertNotIn("LR_", text_of(DIFFERENCES, "c", "lane", prefix="calc"))
+        self.assertNotRegex(text_of(DIFFERENCES, "c", "lane", prefix="calc"), "(?i)lr_")
+        # (texts of the grammar stay as they are)
+        self.assertIn('"lr_row",', text_of(hostile_data(), "c", "lane", prefix="calc"))
 
     def command(self, data, *words, **how):
         environment = {**os.environ, "PYTHONPATH": f"{ROOT}/tools", "PYTHONDONTWRITEBYTECODE": "1"}
@@ -234,3 +240,32 @@ class Answers(unittest.TestCase):
             with self.subTest(name), tempfile.TemporaryDirectory() as room:
                 if all(map(shutil.which, needed)):
                     self.assertEqual(answers(made, lines, build, f"{room}/{name}"), expected)
+
+
+def in_python_alone(*change):
+    """The command by a script in the place of `lrshow`, for Python alone, and without the calculators."""
+    languages, calculators = {"Python": LANGUAGES["Python"]}, mock.patch.object(examples, "faults_of", return_value=[])
+    with mock.patch.object(command, "LANGUAGES", languages), calculators:
+        return by_lrshow(command, *change)
+
+
+class Command(CommandTest):
+    def test_data(self):
+        self.check(in_python_alone, (
+            ("right data", 0, "Python: 9 of 9 answers agree"),
+            ("the files", 0, "files: 3 for each language"),
+            ("conflicts", 0, "without a file: 2 with conflicts"),
+            ("a dropped shift", 1, "x/S parse 2 x/Lane: the model has", '{"x": 1}', "{}"),
+            ("no start symbol", 0, "without a file: 1 of a start symbol without a production", '"start": "S"', '"start": "T"'),
+            ("broken JSON", 1, "no JSON", "null", "nul"),
+        ))
+
+    def test_answers(self):
+        texts = [answer_of(it[3]) for it in QUESTIONS]
+        questions = [Question(f"case {number}", *it) for number, it in enumerate(QUESTIONS)]
+        made = Made("tables", None, "lane", None, questions)
+        rows = [(made, it) for it in questions]
+        self.assertEqual(command.faults_of(texts, rows), [])
+        self.assertEqual(command.faults_of(texts[1:], rows), ["7 answers to 8 questions"])
+        (fault,) = command.faults_of([*texts[:3], texts[3].replace("Eof", "n"), *texts[4:]], rows)
+        self.assertIn("case 3, tables: expected", fault)
