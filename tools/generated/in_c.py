@@ -51,9 +51,12 @@ class Header:
         head = f"static const char *const {self.small}{name}[] = {{"
         return [f"// {comment}", head, *[f"    {quoted(it)}," for it in texts], "};", ""]
 
-    def array(self, it):
-        head = f"static const uint{bits_of(it.numbers)}_t {self.small}{it.name}[] = {{"
-        return [f"// {it.comment}", head, *number_lines(it.numbers, "    "), "};", ""]
+    def arrays(self):
+        """The tables: the arrays are one value, so that a function has one address of all."""
+        rows = [(it, f"    uint{bits_of(it.numbers)}_t {it.name}[{len(it.numbers)}];") for it in arrays_of(self.packed)]
+        types = [line for it, declared in rows for line in (f"    // {it.comment}", declared)]
+        values = [line for it, _ in rows for line in (f"    .{it.name} = {{", *number_lines(it.numbers, "        "), "    },")]
+        return ["static const struct {", *types, f"}} {self.small}tables = {{", *values, "};", ""]
 
     def lines(self):
         return [
@@ -63,7 +66,7 @@ class Header:
             *self.counts(),
             *self.texts("terminal_texts", "the text of a terminal", [*self.tables.terminals, "end of input"]),
             *self.texts("nonterminal_texts", "the name of a nonterminal", self.tables.nonterminals),
-            *[line for it in arrays_of(self.packed) for line in self.array(it)],
+            *self.arrays(),
             *self.fixed("lookup_small.c" if self.packed.is_small else "lookup.c"), "",
             *self.fixed("interface.c"), "",
             *self.fixed("driver.c"), "",

@@ -24,8 +24,14 @@ def constant(name, kind, lines, count, comment, visible_to="static"):
     return [f"/// {comment}", "#[rustfmt::skip]", f"{visible_to} {name}: [{kind}; {count}] = [", *lines, "];", ""]
 
 
-def array(it):
-    return constant(it.name.upper(), f"u{bits_of(it.numbers)}", number_lines(it.numbers, "    "), len(it.numbers), it.comment)
+def tables_of(arrays):
+    """The tables: the arrays are one value, so that a function has one address of all."""
+    rows = [(it, f"    {it.name}: [u{bits_of(it.numbers)}; {len(it.numbers)}],") for it in arrays]
+    types = [line for it, declared in rows for line in (f"    /// {it.comment}", declared)]
+    values = [line for it, _ in rows for line in (f"    {it.name}: [", *number_lines(it.numbers, "        "), "    ],")]
+    return [
+        "struct Tables {", *types, "}", "", "#[rustfmt::skip]", "static TABLES: Tables = Tables {", *values, "};", "",
+    ]
 
 
 def members(kind, names):
@@ -49,7 +55,7 @@ def text_of(packed, method):
         *constant("TERMINAL_TEXTS", "&str", [f"    {quoted(it)}," for it in [*tables.terminals, "end of input"]], tables.end + 1, "the text of a terminal"),
         *constant("NONTERMINAL_TEXTS", "&str", [f"    {quoted(it)}," for it in tables.nonterminals], len(tables.nonterminals), "the name of a nonterminal"),
         *([] if packed.is_small else ["/// how many bytes a set has", f"const SET_BYTES: usize = {packed.set_bytes};", ""]),
-        *[line for it in arrays_of(packed) for line in array(it)],
+        *tables_of(arrays_of(packed)),
         *read("lookup_small.rs" if packed.is_small else "lookup.rs"), "",
         *read("interface.rs"), "",
         *read("driver.rs"),

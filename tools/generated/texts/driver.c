@@ -62,7 +62,7 @@ static inline lr_result lr_reduce_all(lr_run *run, const lr_handler *handler, ui
 {
     while ((trial->action = lr_action_of(trial->state, terminal)) - 1 < LR_PRODUCTIONS) {
         uint32_t production = trial->action - 1;
-        size_t length = lr_length[production], place;
+        size_t length = lr_tables.length[production], place;
         if (trial->left == 0)
             return LR_LIMIT;
         trial->left--;
@@ -79,7 +79,7 @@ static inline lr_result lr_reduce_all(lr_run *run, const lr_handler *handler, ui
         lr_entry entry = run->stack[place];
         if (handler && handler->reduce(handler->context, (lr_production)production, entry.first, run->position))
             return LR_STOPPED;
-        trial->state = lr_goto_of(entry.state, lr_left[production]);
+        trial->state = lr_goto_of(entry.state, lr_tables.left[production]);
         if (trial->state == 0)
             return terminal == LR_T_END ? LR_ACCEPTED : LR_REFUSED;
     }

@@ -79,9 +79,9 @@ impl At {
                 return Err(Error::Limit);
             }
             self.left -= 1;
-            let Entry(below, first) = self.pop(stack, depth, LENGTH[action - 1] as usize);
+            let Entry(below, first) = self.pop(stack, depth, TABLES.length[action - 1] as usize);
             takes(PRODUCTIONS[action - 1], first).map_err(Error::Stopped)?;
-            self.state = goto_of(below, LEFT[action - 1] as usize);
+            self.state = goto_of(below, TABLES.left[action - 1] as usize);
             if self.state == 0 {
                 return Ok(Some(0));
             }

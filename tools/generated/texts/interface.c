@@ -10,10 +10,10 @@ static inline const char *lr_nonterminal_text(lr_nonterminal nonterminal)
 
 static inline lr_nonterminal lr_left_side(lr_production production)
 {
-    return (lr_nonterminal)lr_left[production];
+    return (lr_nonterminal)lr_tables.left[production];
 }
 
 static inline size_t lr_right_length(lr_production production)
 {
-    return lr_length[production];
+    return lr_tables.length[production];
 }

@@ -15,12 +15,12 @@ impl Nonterminal {
 impl Production {
     /// The nonterminal on the left side.
     pub fn left(self) -> Nonterminal {
-        NONTERMINALS[LEFT[self as usize] as usize]
+        NONTERMINALS[TABLES.left[self as usize] as usize]
     }
 
     /// How many symbols the right side has.
     pub fn length(self) -> usize {
-        LENGTH[self as usize] as usize
+        TABLES.length[self as usize] as usize
     }
 }
 
