@@ -1,18 +1,21 @@
 """The tables of the stored cases, and the questions to the files that are generated from them."""
 import collections
+import random
 
 from generated.packing import Packed, check
 from generated.tables import NoTables, Tables
-from gate.generated.model import Model
+from gate.generated.model import Limit, Model, Refused
 from gate.hostile import reading
 from gate.replay.asking import data_in, data_of
 from gate.replay.lrtab import result_of
 
 # A limit that no run of the stored cases reaches by tables without conflicts.
 ENOUGH = 900
+# For each tables, so many lists of at most so many tokens are asked, too.
+LISTS, TOKENS = 8, 12
 # Tables with a name, how they were made, and what runs by them are expected to do.
 Made = collections.namedtuple("Made", "name packed method model questions")
-# A case is the name of a stored case, or None for a question of our own.
+# A question has the name of a stored case, or of a walk.
 Question = collections.namedtuple("Question", "name limit tokens has_end expected")
 
 
@@ -35,6 +38,26 @@ def wrapped(program, grammars, name):
     words = {"file": file, "words": [hidden, "json"], "method": method}
     data, fault = data_in(result_of(program, words, f"{grammars[file]}\n{hidden} = {start}\n"))
     return hidden, data, fault
+
+
+def walked(model, chance):
+    """A list of tokens, most of which may follow those before them."""
+    stack, tokens = [0], []
+    while model.terminals and len(tokens) < TOKENS:
+        right = [it for it in model.terminals if model.may_follow(stack, it, ENOUGH)]
+        tokens.append(chance.choice(right if right and chance.random() < 0.9 else model.terminals))
+        try:
+            model.read(stack, [""] * (len(stack) - 1), tokens[-1], ENOUGH)
+        except (Refused, Limit):
+            break
+    return tokens
+
+
+def own_questions(name, model):
+    """Questions on lists that are the same in each run."""
+    chance = random.Random(" ".join(name))
+    lists = [walked(model, chance) for _ in range(LISTS)]
+    return [Question(f"walk {number}", ENOUGH, it, True, model.outcome(ENOUGH, it)) for number, it in enumerate(lists)]
 
 
 class Found:
@@ -89,7 +112,7 @@ class Found:
         return Question(case["name"], limit, known, not unknown, expected)
 
     def make(self, name, tables, model, questions):
-        packed = Packed(tables, False)
+        packed, questions = Packed(tables, False), questions + own_questions(name, model)
         check(packed)
         self.made.append(Made(" ".join(name), packed, name[2].lower(), model, questions))
         if name[2] == "Lane":

@@ -252,7 +252,7 @@ def in_python_alone(*change):
 class Command(CommandTest):
     def test_data(self):
         self.check(in_python_alone, (
-            ("right data", 0, "Python: 9 of 9 answers agree"),
+            ("right data", 0, "Python: 33 of 33 answers agree"),
             ("the files", 0, "files: 3 for each language"),
             ("conflicts", 0, "without a file: 2 with conflicts"),
             ("a dropped shift", 1, "x/S parse 2 x/Lane: the model has", '{"x": 1}', "{}"),
