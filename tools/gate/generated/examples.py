@@ -1,10 +1,10 @@
-"""The calculators of examples/calculator: their generated files, and what they print."""
+"""The calculators of examples/calculator, by files that are generated for them."""
 import os
 import shutil
 import sys
 
 from gate.callers.parts import lacks, ran
-from gate.files import ROOT, read
+from gate.files import ROOT, read, write
 from gate.replay.asking import data_of
 from generated.__main__ import text_of
 
@@ -23,21 +23,28 @@ VALUES = {"1 + 2 * (3 - 4)": "-1", "-3/4": "-0.75", "2.5*(4)": "10", "7": "7", "
 LINES = 60
 
 
-def changed(program):
-    """The generated files that are not those of the grammar, each with why."""
+def texts_of(program):
+    """The generated files of the grammar, and faults."""
     _, data, fault = data_of(program, {GRAMMAR: read(f"{FOLDER}/{GRAMMAR}")}, GRAMMAR, START, "Lane")
     if data is None or fault:
-        return [f"{GRAMMAR}: {fault or 'no data'}"]
-    texts = {it: text_of(data, language, "lane", prefix="calc") for it, language in FILES.items()}
-    return [f"{it} is not the file of {GRAMMAR}" for it, text in texts.items() if text != read(f"{FOLDER}/{it}")]
+        return {}, [f"{GRAMMAR}: {fault or 'no data'}"]
+    return {it: text_of(data, language, "lane", prefix="calc") for it, language in FILES.items()}, []
 
 
-def wrong_values(language, room):
+def changed(texts):
+    """The generated files in the folder that are not those of the grammar."""
+    there = [it for it in texts if os.path.exists(f"{FOLDER}/{it}")]
+    return [f"{it} is not the file of {GRAMMAR}" for it in there if texts[it] != read(f"{FOLDER}/{it}")]
+
+
+def wrong_values(language, texts, room):
     """The values that a calculator prints wrong."""
     compiler, words = CALCULATORS[language]
     if compiler and lacks(compiler.split()[0]):
         return []
     shutil.copytree(FOLDER, room)
+    for name, text in texts.items():
+        write(f"{room}/{name}", text)
     if compiler:
         ran(*compiler.split(), folder=room)
     printed = {it: ran(*words, it, folder=room).strip() for it in VALUES}
@@ -51,5 +58,6 @@ def long():
 
 
 def faults_of(program, room):
-    wrong = [more for it in CALCULATORS for more in wrong_values(it, f"{room}/{it} calculator")]
-    return [*changed(program), *long(), *wrong]
+    texts, faults = texts_of(program)
+    wrong = [more for it in CALCULATORS if texts for more in wrong_values(it, texts, f"{room}/{it} calculator")]
+    return [*faults, *changed(texts), *long(), *wrong]
