@@ -194,6 +194,25 @@ class Files(unittest.TestCase):
         # (texts of the grammar stay as they are)
         self.assertIn('"lr_row",', text_of(hostile_data(), "c", "lane", prefix="calc"))
 
+    def test_many_states(self):
+        """A right side of 66,000 symbols, whose states have numbers of more than 16 bits."""
+        length = 66_000
+        shifts = [state(it, {"x": it + 1}, {}) for it in range(length)]
+        data = {**DIFFERENCES, "terminals": ["x"], "states": [*shifts, state(length, {}, {}, (0, 0))]}
+        data["productions"] = [{"number": 0, "nonterminal": "S", "symbols": symbols('"x"') * length}]
+        text = text_of(data, "c", "lane")
+        self.assertIn("uint32_t row[66001];", text)
+        self.assertIn("uint32_t cell[", text)
+        self.assertIn("uint8_t column[", text)
+
+    @unittest.skipUnless(shutil.which("rustc"), "rustc is not on the path")
+    def test_without_std(self):
+        with tempfile.TemporaryDirectory() as room:
+            write(f"{room}/tables.rs", text_of(DIFFERENCES, "rust", "lane"))
+            write(f"{room}/lib.rs", "#![no_std]\nmod tables;\n")
+            command = "rustc --edition 2021 -D warnings --crate-type lib lib.rs"
+            subprocess.run(command.split(), cwd=room, check=True)
+
     def command(self, data, *words, **how):
         environment = {**os.environ, "PYTHONPATH": f"{ROOT}/tools", "PYTHONDONTWRITEBYTECODE": "1"}
         command = [sys.executable, "-m", "generated", *words]
