@@ -1,5 +1,4 @@
 """The comment at the top of a generated file, line by line."""
-VERSION = "0.23.1"
 EXACT = [
     "The tables are exact: a state has an action on a terminal only if the LR(1) tables have one.",
 ]
@@ -13,7 +12,7 @@ def heading(packed, method, usage):
     """The lines, without the signs of a comment."""
     tables = packed.tables
     return [
-        f"A parser by LR(1) tables, made by lrshow {VERSION}. Do not edit it.",
+        "A parser by LR(1) tables, made by a script from the data of lrshow. Do not edit it.",
         "",
         f"Start symbol: {tables.start}. Method: {method}. Conflicts: none. States: {len(tables.states)}.",
         *(SMALL if packed.is_small else EXACT),

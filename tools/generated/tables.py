@@ -60,7 +60,7 @@ def check_start(start, productions):
     if all(it.nonterminal != start for it in productions):
         raise NoTables(f"`{start}` has no production", 2)
     if any((False, start) in it.symbols for it in productions):
-        raise NoTables(f"`{start}` is on a right side; ask for `--augment`", 2)
+        raise NoTables(f"`{start}` is on a right side; make a new start symbol, and ask for `--augmented`", 2)
 
 
 def nonterminals_of(productions):

@@ -222,7 +222,7 @@ class Files(unittest.TestCase):
         said = self.command(DIFFERENCES, "c", "lane", capture_output=True)
         self.assertEqual((said.returncode, said.stdout, said.stderr), (0, text_of(DIFFERENCES, "c", "lane"), ""))
         said = self.command({**DIFFERENCES, "start": "E"}, "rust", "lane", capture_output=True)
-        expected = "`E` is on a right side; ask for `--augment`\n"
+        expected = "`E` is on a right side; make a new start symbol, and ask for `--augmented`\n"
         self.assertEqual((said.returncode, said.stdout, said.stderr), (2, "", expected))
 
     @unittest.skipUnless(os.path.exists("/dev/full"), "there is no /dev/full")
