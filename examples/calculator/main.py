@@ -45,5 +45,5 @@ if __name__ == "__main__":
     try:
         parse([it[0] for it in VALUES.terminals], VALUES)
         print(f"{VALUES.values[0]:g}")
-    except (ParseError, ValueError) as why:
+    except (ParseError, ArithmeticError, ValueError) as why:
         sys.exit(str(why))

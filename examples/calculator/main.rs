@@ -8,8 +8,7 @@ fn read(mut text: &str) -> Option<Vec<(Terminal, f64)>> {
     let mut found = Vec::new();
     while let Some(sign) = text.chars().next() {
         let after = text.trim_start_matches(|it: char| it.is_ascii_digit() || it == '.');
-        let digits = text.len() - after.len();
-        let (word, rest) = text.split_at(digits.max(sign.len_utf8()));
+        let (word, rest) = text.split_at((text.len() - after.len()).max(sign.len_utf8()));
         match TERMINALS.iter().find(|it| it.text() == word) {
             Some(sign) => found.push((*sign, 0.0)),
             None if sign == ' ' => {}
@@ -25,7 +24,6 @@ struct Values<'a>(&'a [(Terminal, f64)], Vec<f64>);
 
 impl Handler for Values<'_> {
     type Stop = ();
-
     fn shift(&mut self, position: usize, _token: Terminal) -> Result<(), ()> {
         self.1.push(self.0[position].1);
         Ok(())
@@ -40,19 +38,22 @@ impl Handler for Values<'_> {
             Production::ProductIsProductSlashFactor => it[0] / it[2],
             Production::FactorIsMinusFactor => -it[1],
             Production::FactorIsLparenSumRparen => it[1],
-            Production::InputIsSum | Production::SumIsProduct => it[0],
-            Production::ProductIsFactor | Production::FactorIsNumber => it[0],
+            _ => it[0],
         });
         Ok(())
     }
 }
 
+fn stop(why: &str) -> ! {
+    eprintln!("{why}");
+    std::process::exit(1)
+}
+
 fn main() {
     let text = std::env::args().nth(1).unwrap_or_default();
-    let terminals = read(&text).expect("numbers, signs and spaces");
+    let terminals = read(&text).unwrap_or_else(|| stop("a sign is none of + - * / ( )"));
     let mut values = Values(&terminals, Vec::new());
-    match parse(terminals.iter().map(|it| it.0), &mut values, None) {
-        Ok(()) => println!("{}", values.1[0]),
-        Err(error) => println!("{}", error.message()),
-    }
+    let ended = parse(terminals.iter().map(|it| it.0), &mut values, None);
+    ended.unwrap_or_else(|error| stop(&error.message()));
+    println!("{}", values.1[0]);
 }

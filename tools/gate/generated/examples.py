@@ -1,6 +1,7 @@
 """The calculators of examples/calculator, by files that are generated for them."""
 import os
 import shutil
+import subprocess
 import sys
 
 from gate.callers.parts import lacks, ran
@@ -19,6 +20,8 @@ CALCULATORS = {
     "Python": (None, [sys.executable, "-W", "error", "main.py"]),
 }
 VALUES = {"1 + 2 * (3 - 4)": "-1", "-3/4": "-0.75", "2.5*(4)": "10", "7": "7", "--1 - -1": "2"}
+# Texts that are refused, with the first words and the last ones of the message.
+REFUSED = {"1 + )": ("token 3", "is wrong; expected: ( - number"), "2 2": ("token 2", "is wrong; expected: * + - / end of input")}
 # How many lines a calculator has at most.
 LINES = 60
 
@@ -48,7 +51,16 @@ def wrong_values(language, texts, room):
     if compiler:
         ran(*compiler.split(), folder=room)
     printed = {it: ran(*words, it, folder=room).strip() for it in VALUES}
-    return [f"{language}: {it} is {text}, expected {VALUES[it]}" for it, text in printed.items() if text != VALUES[it]]
+    wrong = [f"{language}: {it} is {text}, expected {VALUES[it]}" for it, text in printed.items() if text != VALUES[it]]
+    return [*wrong, *(f"{language}: {it} is not refused as expected" for it in REFUSED if not refused(words, it, room))]
+
+
+def refused(words, text, room):
+    """Whether a calculator prints the message of a refused text alone, to standard error, with the status 1."""
+    ended = subprocess.run([*words, text], cwd=room, capture_output=True, text=True, check=False)
+    first, last = REFUSED[text]
+    message = ended.stderr.strip()
+    return ended.returncode == 1 and not ended.stdout and message.startswith(first) and message.endswith(last)
 
 
 def long():
