@@ -40,7 +40,7 @@ set_of_rising : (s : Bits) → bits_of (rising s) ≡ s
 set_of_rising s = same_bits _ _ (λ q. has-bits_of (rising s) q ∙ sym (has-rising s q))
 
 -- so it is with each set of a list
-sets_of_rising : (sets : List Bits) → map bits_of (map rising sets) ≡ sets
+pub sets_of_rising : (sets : List Bits) → map bits_of (map rising sets) ≡ sets
 sets_of_rising [] = refl
 sets_of_rising (s ∷ sets) = ap (λ x. x ∷ map bits_of (map rising sets)) (set_of_rising s) ∙ ap (λ xs. s ∷ xs) (sets_of_rising sets)
 
@@ -52,11 +52,11 @@ same_contents f g h k a b first second third =
     ∙ ap (λ (x : NonterminalString → Option ℕ). let c : Contents = record { items = []; shift = g; goto = x; reductions = a } in c) second
     ∙ ap (λ (x : List Reduction). let c : Contents = record { items = []; shift = g; goto = k; reductions = x } in c) third
 
-some_not_none : {A : Type 0} (x : A) → Some x ≡ None → ⊥
+pub some_not_none : {A : Type 0} (x : A) → Some x ≡ None → ⊥
 some_not_none x e = cc
 
 -- a list has no value at a number at which a list of the same length has none
-there_not : {A B : Type 0} (xs : List A) (ys : List B) (n : ℕ) (x : A) → slice_get xs n ≡ Some x → slice_get ys n ≡ None → length ys ≡ length xs → ⊥
+pub there_not : {A B : Type 0} (xs : List A) (ys : List B) (n : ℕ) (x : A) → slice_get xs n ≡ Some x → slice_get ys n ≡ None → length ys ≡ length xs → ⊥
 there_not xs ys n x at none same = ⊎_elim
     (λ there. some_not_none there.0 (sym there.2 ∙ none))
     (λ past. let l = past.0 in let within = slice_get_within xs n x at in omega (arith, l, within, same))

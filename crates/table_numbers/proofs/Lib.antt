@@ -1,4 +1,5 @@
 pub mod ContentsLemmas
+pub mod ItemLemmas
 pub mod JoinLemmas
 pub mod ListSteps
 pub mod MadeLemmas

@@ -8,7 +8,7 @@ use Rattle.lalrpop_collections.proofs.theory.lists.Places.{push_cases, slice_get
 use Rattle.lalrpop_grammar.specs.declared.repr.Production.{Production}
 use Rattle.lalrpop_states.specs.declared.lr1_core.state.State.{State}
 use Rattle.table_numbers.specs.Lists.{Lists}
-use Rattle.table_numbers.specs.Numbered.{EachIsNumbered, IsNumbered, Keeps, reduction_at, reduction_parts}
+use Rattle.table_numbers.specs.Numbered.{AreNumbered, EachIsNumbered, IsNumbered, Keeps, reduction_at, reduction_parts}
 use Rattle.table_numbers.specs.declared.tables.NumberedState.{NumberedState}
 
 -- a list keeps what it has when a value is added
@@ -61,3 +61,10 @@ module _ (lists : Lists) (old new : List Bits) (kept : Keeps old new) where
       let is_state : state ≡ other = cc in
       subst (λ (x : NumberedState). IsNumbered lists new other x) last.1 (subst (λ (x : State Bits). IsNumbered lists new x s) is_state is))
       (push_cases list s n t at_t)
+
+  -- states by number stay when token sets are added
+  pub kept_states : (states : List (State Bits)) (list : List NumberedState) → AreNumbered lists old states list → AreNumbered lists new states list
+  kept_states states list are = record {
+    counted = are.counted;
+    each = λ n state s at_n at_s. kept_state state s (are.each n state s at_n at_s);
+  }

@@ -2,7 +2,8 @@
 use Rattle.std.proofs.Common.{◌≡◌, ℕ, ◌+◌, ◌*◌, ◌<◌, List, [], ◌∷◌, ◌++◌, length, drop, get_or, refl, sym, ◌∙◌, ap, arith, append_assoc, length-append}
 use Rattle.std.specs.List.{flat_map}
 use Rattle.std.proofs.lemmas.List.{drop_more}
-use Rattle.table_numbers.specs.Layout.{counted_pairs, pair_numbers, places_from, state_block}
+use Rattle.table_numbers.specs.Layout.{counted_pairs, item_block, item_numbers, pair_numbers, places_from, state_block}
+use Rattle.table_numbers.specs.declared.tables.NumberedItem.{NumberedItem}
 use Rattle.table_numbers.specs.declared.tables.NumberedState.{NumberedState}
 
 -- pairs have two numbers each
@@ -13,6 +14,15 @@ length-pair_numbers (p ∷ pairs) = let rest = length-pair_numbers pairs in omeg
 -- a counted list has one number more
 pub length-counted : (pairs : List (ℕ × ℕ)) → length (counted_pairs pairs) ≡ 1 + 2 * length pairs
 length-counted pairs = let some = length-pair_numbers pairs in omega (arith, some)
+
+-- items have three numbers each
+pub length-item_numbers : (items : List NumberedItem) → length (item_numbers items) ≡ 3 * length items
+length-item_numbers [] = refl
+length-item_numbers (i ∷ items) = let rest = length-item_numbers items in omega (arith, rest)
+
+-- a block of items has one number more
+pub length-item_block : (items : List NumberedItem) → length (item_block items) ≡ 1 + 3 * length items
+length-item_block items = let some = length-item_numbers items in omega (arith, some)
 
 -- the block of a state has those of three lists
 pub length-state_block : (s : NumberedState) → length (state_block s) ≡ length (counted_pairs s.shifts) + (length (counted_pairs s.gotos) + length (counted_pairs s.reductions))

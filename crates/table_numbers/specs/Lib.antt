@@ -1,4 +1,5 @@
 pub mod Contents
+pub mod Items
 pub mod Laws
 pub mod Layout
 pub mod Lists

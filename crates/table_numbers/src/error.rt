@@ -9,17 +9,17 @@ use thiserror::Error;
 /// Why there are no numbers of tables, or no tables of numbers. A place is the index of a number in
 /// the list. `CutOff` has the place at which a number is missing. `Wrong` has the first place whose
 /// number is not the one that the tables have there, for example a wrong place of a state, or a
-/// number after the last state. `State` has the number of a state that names what the grammar does
-/// not list, or that names it twice. `Repeated` has the number of a production that the grammar
-/// lists a second time.
+/// number after the last block. `Items` has the number of lists of items. `State` has the number of a
+/// state that names what the grammar does not list, or that names it twice. `Repeated` has the number
+/// of a production that the grammar lists a second time.
 #[derive(Debug, Drop, PartialEq, Eq, Error)]
 pub enum NumbersError {
     #[error("place 0: the numbers are not those of tables")]
     NotTables,
     #[error("place 1: version {0} is unknown")]
     Version(u32),
-    #[error("place 2: flags {0} are unknown")]
-    Flags(u32),
+    #[error("place 2: {0} lists of items are not one for each state")]
+    Items(usize),
     #[error("place {0}: the numbers end before the tables")]
     CutOff(usize),
     #[error("place {0}: the number is not the one of the tables")]

@@ -1,6 +1,6 @@
 //! Theorems on numbers of tables. The contract of each function states one, and the function does
 //! nothing.
-ghost use Rattle.table_numbers.specs.Laws.{FaithfulNumbers, OneTables};
+ghost use Rattle.table_numbers.specs.Laws.{FaithfulNumbers, OneTables, WholeNumbers};
 
 /// Different tables have different numbers. So numbers have one meaning.
 pub fn one_tables()
@@ -11,4 +11,9 @@ pub fn one_tables()
 /// parsing say.
 pub fn faithful_numbers()
     ensures faithful { FaithfulNumbers }
+{}
+
+/// Numbers of faithful states with their items are faithful with the items that they list.
+pub fn whole_numbers()
+    ensures whole { WholeNumbers }
 {}

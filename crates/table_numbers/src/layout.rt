@@ -1,10 +1,10 @@
 //! The numbers of tables by number.
 ghost use Rattle.std.specs.Prelude.{◌≡◌, ◌+◌, ◌++◌, ◌∷◌, [], IfOk, OnOk, length};
 ghost use Rattle.std.specs.List.{flat_map};
-ghost use Rattle.table_numbers.specs.Layout.{counted_pairs, first_set_place, head_of, numbers_of, pair_numbers, places_from, set_block, state_block};
+ghost use Rattle.table_numbers.specs.Layout.{counted_pairs, first_set_place, head_of, item_block, item_numbers, numbers_of, pair_numbers, places_from, set_block, state_block};
 
 use crate::error::NumbersError;
-use crate::tables::{MAGIC, NumberedState, NumberedTables, VERSION};
+use crate::tables::{MAGIC, NumberedItem, NumberedState, NumberedTables, VERSION};
 use lalrpop_base::sequence::Sequence;
 use std::alloc::Global;
 
@@ -15,14 +15,17 @@ impl NumberedTables {
     {
         let sets = self.sets.as_slice();
         let states = self.states.as_slice();
+        let lists = self.items.as_slice();
         let mut out = Vec::new(alloc);
         push_head(&mut out, self)?;
         let place = push_set_places(&mut out, sets, first_place(self)?)?;
-        let end = push_state_places(&mut out, states, place)?;
+        let list_place = push_state_places(&mut out, states, place)?;
+        let end = push_list_places(&mut out, lists, list_place)?;
         out.reserve((end as usize).saturating_sub(out.len()))?;
         push_pairs(&mut out, self.productions.as_slice())?;
         push_sets(&mut out, sets)?;
         push_states(&mut out, states)?;
+        push_lists(&mut out, lists)?;
         Ok(out)
     }
 }
@@ -53,7 +56,8 @@ fn first_place(tables: &NumberedTables) -> Result<u32, NumbersError>
 {
     let sets = place_after(8, tables.sets.len())?;
     let states = place_after(sets, tables.states.len())?;
-    let half = place_after(states, tables.productions.len())?;
+    let lists = place_after(states, tables.items.len())?;
+    let half = place_after(lists, tables.productions.len())?;
     let end = place_after(half, tables.productions.len())?;
     Ok(end)
 }
@@ -64,7 +68,7 @@ fn push_head(out: &mut Vec<u32>, tables: &NumberedTables) -> Result<(), NumbersE
 {
     out.push(MAGIC)?;
     out.push(VERSION)?;
-    out.push(0)?;
+    out.push(number_of(tables.items.len())?)?;
     out.push(tables.terminals)?;
     out.push(tables.nonterminals)?;
     out.push(number_of(tables.productions.len())?)?;
@@ -107,6 +111,36 @@ fn push_state_places(
         place = place_after_state(place, state)?;
     }
     Ok(place)
+}
+
+// Appends the places of lists of items, the first of which is at a place. Returns the place after
+// them.
+fn push_list_places(
+    out: &mut Vec<u32>,
+    lists: &[Sequence<NumberedItem>],
+    first: u32,
+) -> Result<u32, NumbersError>
+    ensures places { OnOk result
+        (out.new.items ≡ out.old.items ++ places_from item_block first lists.now) }
+    ensures end { IfOk result (λ end. end ≡ first + length (flat_map item_block lists.now)) }
+{
+    let mut place = first;
+    for list in lists {
+        out.push(place)?;
+        place = place_after_items(place, list.as_slice())?;
+    }
+    Ok(place)
+}
+
+// The place after the block of a list of items.
+fn place_after_items(place: u32, items: &[NumberedItem]) -> Result<u32, NumbersError>
+    ensures { IfOk result (λ n. n ≡ place + length (item_block items.now)) }
+{
+    let first = place_after(place, 1)?;
+    let second = place_after(first, items.len())?;
+    let third = place_after(second, items.len())?;
+    let end = place_after(third, items.len())?;
+    Ok(end)
 }
 
 // The place after the block of a state.
@@ -181,6 +215,36 @@ fn push_states(out: &mut Vec<u32>, states: &[NumberedState]) -> Result<(), Numbe
 {
     for state in states {
         push_state(out, state)?;
+    }
+    Ok(())
+}
+
+// Appends the numbers of items.
+fn push_items(out: &mut Vec<u32>, items: &[NumberedItem]) -> Result<(), NumbersError>
+    ensures { OnOk result (out.new.items ≡ out.old.items ++ item_numbers items.now) }
+{
+    for item in items {
+        out.push(item.production)?;
+        out.push(item.dot)?;
+        out.push(item.lookahead)?;
+    }
+    Ok(())
+}
+
+// Appends the block of a list of items.
+fn push_list(out: &mut Vec<u32>, items: &[NumberedItem]) -> Result<(), NumbersError>
+    ensures { OnOk result (out.new.items ≡ out.old.items ++ item_block items.now) }
+{
+    out.push(number_of(items.len())?)?;
+    push_items(out, items)
+}
+
+// Appends the blocks of lists of items.
+fn push_lists(out: &mut Vec<u32>, lists: &[Sequence<NumberedItem>]) -> Result<(), NumbersError>
+    ensures { OnOk result (out.new.items ≡ out.old.items ++ flat_map item_block lists.now) }
+{
+    for list in lists {
+        push_list(out, list.as_slice())?;
     }
     Ok(())
 }

@@ -1,5 +1,5 @@
 //! Tables by number, of states.
-ghost use Rattle.std.specs.Prelude.{◌≡◌, IfOk, OnOk, Some, map, slice_get};
+ghost use Rattle.std.specs.Prelude.{◌≡◌, [], IfOk, OnOk, Some, map, slice_get};
 ghost use Rattle.lalrpop_base.specs.Words.{contents, rising};
 ghost use Rattle.table_numbers.specs.Lists.{AreAbout, lists_of, named};
 ghost use Rattle.table_numbers.specs.Numbered.{AreNumbered, IsNumbered, Keeps, named_target, reduction_at, reduction_parts};
@@ -9,7 +9,7 @@ use crate::error::NumbersError;
 use crate::layout::number_of;
 use crate::names::{Names, list_sides};
 use crate::numbering::Numbering;
-use crate::tables::{NumberedState, NumberedTables};
+use crate::tables::{NumberedItem, NumberedState, NumberedTables};
 use lalrpop_base::exact::Exact;
 use lalrpop_base::lookahead::token_set::TokenSet;
 use lalrpop_base::lr1_core::state::{Lr1State, StateIndex};
@@ -21,16 +21,17 @@ use std::collections::BTreeMap;
 use std::hash::Hash;
 
 impl NumberedTables {
-    /// The tables of states by number. Each token set has one number, and so sets that are equal
-    /// are kept once. The errors are `State` for a name that the grammar does not list, `Repeated`,
-    /// `TooLarge` and `Memory`.
+    /// The tables of states by number, without items. Each token set has one number, and so sets
+    /// that are equal are kept once. The errors are `State` for a name that the grammar does not
+    /// list, `Repeated`, `TooLarge` and `Memory`.
     pub fn of_states(
         alloc: Global,
         grammar: &Grammar,
         states: &[Lr1State<'_>],
     ) -> Result<NumberedTables, NumbersError>
-        ensures { IfOk result (λ t. AreTablesOf (lists_of grammar.now) t
+        ensures tables { IfOk result (λ t. AreTablesOf (lists_of grammar.now) t
             (contents grammar.now.terminals states.now)) }
+        ensures no_items { IfOk result (λ t. t.items ≡ []) }
     {
         let names = Names::new(alloc, grammar)?;
         let tables = number_tables(alloc, &names, states)?;
@@ -44,26 +45,29 @@ fn number_tables(
     names: &Names,
     states: &[Lr1State<'_>],
 ) -> Result<NumberedTables, NumbersError>
-    ensures { IfOk result (λ t. AreTablesOf names.now t
+    ensures tables { IfOk result (λ t. AreTablesOf names.now t
         (contents names.now.terminals states.now)) }
+    ensures no_items { IfOk result (λ t. t.items ≡ []) }
 {
     let mut sets = Numbering::new(alloc);
     let numbered = number_states(alloc, names, states, &mut sets)?;
     let listed = list_sets(alloc, sets.all())?;
-    let tables = join_parts(alloc, names, listed, numbered)?;
+    let tables = join_parts(alloc, names, listed, numbered, Sequence::new(alloc))?;
     Ok(tables)
 }
 
-// The tables of token sets and states, with the counts and the productions of a grammar.
-fn join_parts(
+/// The tables of token sets, states and items, with the counts and the productions of a grammar.
+pub(crate) fn join_parts(
     alloc: Global,
     names: &Names,
     sets: Sequence<Sequence<u32>>,
     states: Sequence<NumberedState>,
+    items: Sequence<Sequence<NumberedItem>>,
 ) -> Result<NumberedTables, NumbersError>
     ensures about { IfOk result (AreAbout names.now) }
     ensures sets { IfOk result (λ t. t.sets ≡ sets) }
     ensures states { IfOk result (λ t. t.states ≡ states) }
+    ensures items { IfOk result (λ t. t.items ≡ items) }
 {
     let terminals = number_of(names.terminals.all().len())?;
     let nonterminals = number_of(names.nonterminals.all().len())?;
@@ -74,11 +78,12 @@ fn join_parts(
         productions,
         sets,
         states,
+        items,
     })
 }
 
-// The states by number. New token sets get numbers.
-fn number_states(
+/// The states by number. New token sets get numbers.
+pub(crate) fn number_states(
     alloc: Global,
     names: &Names,
     states: &[Lr1State<'_>],
@@ -152,8 +157,8 @@ fn number_reductions(
     Ok(pairs)
 }
 
-// The number of a token set. A new set is added.
-fn number_set(
+/// The number of a token set. A new set is added.
+pub(crate) fn number_set(
     alloc: Global,
     tokens: &TokenSet,
     sets: &mut Numbering<TokenSet>,
@@ -169,8 +174,11 @@ fn number_set(
     number_of(number)
 }
 
-// The tokens of each set.
-fn list_sets(alloc: Global, sets: &[TokenSet]) -> Result<Sequence<Sequence<u32>>, NumbersError>
+/// The tokens of each set.
+pub(crate) fn list_sets(
+    alloc: Global,
+    sets: &[TokenSet],
+) -> Result<Sequence<Sequence<u32>>, NumbersError>
     ensures { IfOk result (λ list. list ≡ map rising sets.now) }
 {
     let mut list = Sequence::with_capacity(alloc, sets.len())?;

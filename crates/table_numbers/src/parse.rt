@@ -3,14 +3,14 @@ ghost use Rattle.std.specs.Prelude.{◌≡◌, ◌<◌, IfOk, IsTrue, Some, leng
 ghost use Rattle.table_numbers.specs.Layout.{numbers_of};
 
 use crate::error::NumbersError;
-use crate::tables::{MAGIC, NumberedState, NumberedTables, VERSION};
+use crate::tables::{MAGIC, NumberedItem, NumberedState, NumberedTables, VERSION};
 use lalrpop_base::sequence::Sequence;
 use std::alloc::Global;
 
 impl NumberedTables {
     /// The tables that have these numbers. They are read, and their numbers are compared with the
-    /// given ones. The errors are `NotTables`, `Version`, `Flags`, `CutOff`, `Wrong`, `TooLarge`
-    /// and `Memory`.
+    /// given ones. The errors are `NotTables`, `Version`, `CutOff`, `Wrong`, `TooLarge` and
+    /// `Memory`.
     pub fn from_numbers(alloc: Global, numbers: &[u32]) -> Result<NumberedTables, NumbersError>
         ensures { IfOk result (λ t. numbers.now ≡ numbers_of t) }
     {
@@ -43,6 +43,7 @@ fn first_difference(a: &[u32], b: &[u32]) -> usize {
 // The counts of the head.
 #[derive(Clone, Copy)]
 struct Counts {
+    lists: u32,
     terminals: u32,
     nonterminals: u32,
     productions: u32,
@@ -53,16 +54,18 @@ struct Counts {
 // The tables, if the places of their blocks are right.
 fn parse(alloc: Global, numbers: &[u32]) -> Result<NumberedTables, NumbersError> {
     let counts = parse_head(numbers)?;
-    let mut at = 8 + counts.sets as usize + counts.states as usize;
+    let mut at = 8 + counts.sets as usize + counts.states as usize + counts.lists as usize;
     let productions = parse_pairs(alloc, numbers, &mut at, counts.productions)?;
     let sets = parse_sets(alloc, numbers, &mut at, counts.sets)?;
     let states = parse_states(alloc, numbers, &mut at, counts.states)?;
+    let items = parse_lists(alloc, numbers, &mut at, counts.lists)?;
     Ok(NumberedTables {
         terminals: counts.terminals,
         nonterminals: counts.nonterminals,
         productions,
         sets,
         states,
+        items,
     })
 }
 
@@ -76,11 +79,8 @@ fn parse_head(numbers: &[u32]) -> Result<Counts, NumbersError> {
     if version != VERSION {
         return Err(NumbersError::Version(version));
     }
-    let flags = next(numbers, &mut at)?;
-    if flags != 0 {
-        return Err(NumbersError::Flags(flags));
-    }
     Ok(Counts {
+        lists: next(numbers, &mut at)?,
         terminals: next(numbers, &mut at)?,
         nonterminals: next(numbers, &mut at)?,
         productions: next(numbers, &mut at)?,
@@ -179,4 +179,40 @@ fn parse_states(
         states.push(parse_state(alloc, numbers, at)?)?;
     }
     Ok(states)
+}
+
+// So many items.
+fn parse_items(
+    alloc: Global,
+    numbers: &[u32],
+    at: &mut usize,
+    count: u32,
+) -> Result<Sequence<NumberedItem>, NumbersError> {
+    let mut items = Sequence::new(alloc);
+    for _ in 0..count {
+        let production = next(numbers, at)?;
+        let dot = next(numbers, at)?;
+        let lookahead = next(numbers, at)?;
+        items.push(NumberedItem {
+            production,
+            dot,
+            lookahead,
+        })?;
+    }
+    Ok(items)
+}
+
+// The blocks of so many lists of items.
+fn parse_lists(
+    alloc: Global,
+    numbers: &[u32],
+    at: &mut usize,
+    count: u32,
+) -> Result<Sequence<Sequence<NumberedItem>>, NumbersError> {
+    let mut lists = Sequence::new(alloc);
+    for _ in 0..count {
+        let items = next(numbers, at)?;
+        lists.push(parse_items(alloc, numbers, at, items)?)?;
+    }
+    Ok(lists)
 }

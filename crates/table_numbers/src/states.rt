@@ -2,14 +2,16 @@
 ghost use Rattle.std.specs.Prelude.{◌≡◌, ◌++◌, ℕ, List, IfOk, IsTrue, OnOk, length, map, slice_get};
 ghost use Rattle.lalrpop_base.specs.Words.{bits_of, contents, name_cmp, productions};
 ghost use Rattle.lalrpop_grammar.specs.contracts.repr.TerminalStringOrd.TheImpl as terminal_ord;
+ghost use Rattle.table_numbers.specs.Items.{AreItemsOf, AreListsOf, EachHasItems, HaveItemsOf, list_at};
 ghost use Rattle.table_numbers.specs.Lists.{AreAbout, lists_of, named, side_of};
 ghost use Rattle.table_numbers.specs.Made.{AddsTarget, AreMade, HasTargets, IsMade, borrowed};
 ghost use Rattle.table_numbers.specs.Numbered.{reduction_at, reduction_parts};
 ghost use Rattle.table_numbers.specs.Numbers.{AreTablesOf};
 
 use crate::error::NumbersError;
+use crate::made_items::listed_items;
 use crate::names::Names;
-use crate::tables::{NumberedState, NumberedTables};
+use crate::tables::{NumberedItem, NumberedState, NumberedTables};
 use lalrpop_base::exact::{Exact, equal};
 use lalrpop_base::lookahead::token_set::TokenSet;
 use lalrpop_base::lr1_core::state::{Items, Lr1State, State, StateIndex};
@@ -32,25 +34,58 @@ impl NumberedTables {
             (contents grammar.now.terminals states.items)) }
     {
         let names = Names::new(alloc, grammar)?;
-        let states = states_by_names(alloc, grammar, &names, self)?;
+        let states = states_by_names(alloc, grammar, &names, self, &[])?;
+        Ok(states)
+    }
+
+    /// The states that the tables have, with their items, for the grammar that they were made for.
+    /// The errors are those of `to_states`, and `Items` if there is not one list of items for each
+    /// state.
+    pub fn to_states_with_items<'grammar>(
+        &self,
+        alloc: Global,
+        grammar: &'grammar Grammar,
+    ) -> Result<Vec<Lr1State<'grammar>>, NumbersError>
+        ensures tables { IfOk result (λ states. AreTablesOf (lists_of grammar.now) self.now
+            (contents grammar.now.terminals states.items)) }
+        ensures items { IfOk result (λ states.
+            HaveItemsOf (lists_of grammar.now) self.now states.items) }
+    {
+        check_lists(self)?;
+        let names = Names::new(alloc, grammar)?;
+        let states = states_by_names(alloc, grammar, &names, self, self.items.as_slice())?;
         Ok(states)
     }
 }
 
-// The states that tables have, with the names of a grammar.
+// Reports that there is not one list of items for each state.
+fn check_lists(tables: &NumberedTables) -> Result<(), NumbersError>
+    ensures { OnOk result (length tables.now.items ≡ length tables.now.states) }
+{
+    if tables.items.len() != tables.states.len() {
+        return Err(NumbersError::Items(tables.items.len()));
+    }
+    Ok(())
+}
+
+// The states that tables have, with the names of a grammar and the items of lists.
 fn states_by_names<'grammar>(
     alloc: Global,
     grammar: &'grammar Grammar,
     names: &Names,
     tables: &NumberedTables,
+    lists: &[Sequence<NumberedItem>],
 ) -> Result<Vec<Lr1State<'grammar>>, NumbersError>
-    ensures { IfOk result (λ states. names.now ≡ lists_of grammar.now →
+    ensures tables { IfOk result (λ states. names.now ≡ lists_of grammar.now →
         AreTablesOf names.now tables.now (contents names.now.terminals states.items)) }
+    ensures items { IfOk result (λ states. names.now ≡ lists_of grammar.now →
+        length lists.now ≡ length tables.now.states →
+        AreListsOf names.now.productions (map bits_of tables.now.sets) states.items lists.now) }
 {
     check_about(names, tables)?;
     let productions = list_productions(alloc, grammar)?;
     let sets = make_sets(alloc, tables.terminals, tables.sets.as_slice())?;
-    let states = make_states(alloc, names, &productions, &sets, tables)?;
+    let states = make_states(alloc, names, &productions, &sets, tables, lists)?;
     Ok(states)
 }
 
@@ -166,27 +201,39 @@ fn make_set(
     Ok(set)
 }
 
-// The states.
+// The states, with the items of lists.
 fn make_states<'grammar>(
     alloc: Global,
     names: &Names,
     productions: &[&'grammar Production],
     sets: &[TokenSet],
     tables: &NumberedTables,
+    lists: &[Sequence<NumberedItem>],
 ) -> Result<Vec<Lr1State<'grammar>>, NumbersError>
-    ensures { IfOk result (λ states. borrowed productions.now ≡ names.now.productions →
+    ensures made { IfOk result (λ states. borrowed productions.now ≡ names.now.productions →
         sets.now ≡ map bits_of tables.now.sets →
         AreMade names.now tables.now.sets tables.now.states states.items) }
+    ensures items { IfOk result (λ states.
+        EachHasItems (borrowed productions.now) sets.now lists.now states.items) }
 {
     let list = tables.states.as_slice();
     let mut states = Vec::with_capacity(alloc, list.len())?;
     for (place, state) in list.iter().enumerate() {
-        states.push(make_state(alloc, names, productions, sets, list.len(), place, state)?)?;
+        states.push(make_state(
+            alloc,
+            names,
+            productions,
+            sets,
+            list.len(),
+            place,
+            state,
+            lists,
+        )?)?;
     }
     Ok(states)
 }
 
-// The state at a place, of so many.
+// The state at a place, of so many, with the items of lists.
 fn make_state<'grammar>(
     alloc: Global,
     names: &Names,
@@ -195,15 +242,18 @@ fn make_state<'grammar>(
     count: usize,
     place: usize,
     state: &NumberedState,
+    lists: &[Sequence<NumberedItem>],
 ) -> Result<Lr1State<'grammar>, NumbersError>
-    ensures { IfOk result (λ made. (listed : List (List ℕ)) →
+    ensures made { IfOk result (λ made. (listed : List (List ℕ)) →
         borrowed productions.now ≡ names.now.productions →
         sets.now ≡ map bits_of listed → IsMade names.now listed state.now made) }
+    ensures items { IfOk result (λ made.
+        AreItemsOf (borrowed productions.now) sets.now (list_at lists.now place) made) }
 {
     Ok(State {
         index: StateIndex(place),
         items: Items {
-            vec: Vec::new(alloc),
+            vec: listed_items(alloc, productions, sets, place, lists)?,
         },
         shifts: make_shifts(
             alloc,

@@ -1,5 +1,5 @@
 //! Tests of tables as numbers that no case file can express: the numbers of a worked example,
-//! changed and cut numbers, numbers of another grammar, and what is left after an allocation
+//! changed and cut numbers, items, numbers of another grammar, and what is left after an allocation
 //! failure.
 #![tactic(auto)]
 
@@ -9,5 +9,7 @@ mod changed;
 mod example;
 #[cfg(test)]
 mod growths;
+#[cfg(test)]
+mod items;
 #[cfg(test)]
 mod table;

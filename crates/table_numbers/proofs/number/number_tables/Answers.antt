@@ -5,8 +5,8 @@ use Rattle.table_numbers.specs.declared.tables.NumberedState.{NumberedState}
 use Rattle.table_numbers.proofs.ContentsLemmas.{all_numbered}
 use Rattle.table_numbers.proofs.number.number_tables.Goals as goal
 
-pub returns : goal.returns
-returns c =
+pub returns-clause-tables : goal.returns-clause-tables
+returns-clause-tables c =
     let lists = c.args.names.now in
     let sets = c.number_states.new.sets in
     let numbered = c.in_ok-numbered.numbered in

@@ -4,5 +4,5 @@ pub returns : goal.returns
 returns c = record {
   tables = c.in_ok-tables.tables;
   laid_out = c.in_ok-numbers.ensures;
-  right = c.in_ok-tables.ensures;
+  right = c.in_ok-tables.ensures.tables;
 }

@@ -10,8 +10,8 @@ use Rattle.table_numbers.specs.Numbered.{reduction_at, reduction_parts}
 use Rattle.table_numbers.proofs.ContentsLemmas.{made_parts}
 use Rattle.table_numbers.proofs.states.make_state.Goals as goal
 
-pub returns : goal.returns
-returns c listed same_productions same_sets =
+pub returns-clause-made : goal.returns-clause-made
+returns-clause-made c listed same_productions same_sets =
     let lists = c.args.names.now in
     let state = c.args.state.now in
     let terminals : c.all.result.now ≡ lists.terminals = c.all.ensures ∙ ap (λ (x : Lists). x.terminals) c.names.view_is in

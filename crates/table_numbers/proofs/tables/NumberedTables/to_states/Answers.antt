@@ -5,4 +5,4 @@ use Rattle.table_numbers.specs.Numbers.{AreTablesOf}
 use Rattle.table_numbers.proofs.tables.NumberedTables.to_states.Goals as goal
 
 pub returns : goal.returns
-returns c = subst (λ (x : Lists). AreTablesOf x c.args.self.now (contents x.terminals c.in_ok-states.states.items)) c.in_ok-names.ensures (c.in_ok-states.ensures c.in_ok-names.ensures)
+returns c = subst (λ (x : Lists). AreTablesOf x c.args.self.now (contents x.terminals c.in_ok-states.states.items)) c.in_ok-names.ensures (c.in_ok-states.ensures.tables c.in_ok-names.ensures)
