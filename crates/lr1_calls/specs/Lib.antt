@@ -1,3 +1,4 @@
 pub mod Calls
+pub mod Checked
 pub mod Copied
 pub mod Tables

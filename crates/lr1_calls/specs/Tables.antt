@@ -1,6 +1,6 @@
 -- The numbers of the tables of a grammar text, in the memory of a caller. A text and a start symbol
 -- are lists of bytes.
-use Rattle.std.specs.Prelude.{◌≡◌, ◌⊎◌, ℕ, List, [], None, position}
+use Rattle.std.specs.Prelude.{◌≡◌, ◌⊎◌, ℕ, Bool, true, false, List, [], None, position}
 use Rattle.std.specs.BTreeMap.{get}
 use Rattle.std.specs.Str.{IsUtf8}
 use Rattle.grammar_text.specs.Faults.{IsFaultOf}
@@ -17,7 +17,7 @@ use Rattle.lalrpop_states.specs.declared.lr1_core.state.State.{State}
 use Rattle.lalrpop_tables.specs.Words.{AreTablesOf}
 use Rattle.program_answers.specs.Inlined.{IsInlining}
 use Rattle.program_answers.specs.Texts.{most_copies}
-use Rattle.table_numbers.specs.Words.{AreNumbersOf, lists_of}
+use Rattle.table_numbers.specs.Words.{AreNumbersOf, AreWholeNumbersOf, Lists, lists_of}
 use Rattle.lr1_calls.specs.Copied.{IsCopied}
 use Rattle.lr1_calls.specs.declared.tables.Outcome.{Outcome}
 use Rattle.lr1_calls.specs.declared.tables.Outcome.TheVariants.{Conflicts, Fault, Memory, Numbers}
@@ -42,11 +42,16 @@ pub record OfInlined (bytes : List ℕ) (P : Grammar → Type 0) : Type 0 where
 abbrev pub AreMadeTables : Method → Grammar → NonterminalString → List (State Bits) → Type 0
 AreMadeTables method g start states = AreTablesOf ⊥ method most_copies g start states
 
+-- the numbers are those of states for a grammar, with items or without
+abbrev pub AreNumbersFor : Bool → Grammar → List ℕ → List (State Bits) → Type 0
+AreNumbersFor true g numbers states = AreWholeNumbersOf (lists_of g) numbers states
+AreNumbersFor false g numbers states = AreNumbersOf (lists_of g) numbers (contents g.terminals states)
+
 -- the numbers are those of tables that the method makes for a grammar and a start symbol
-pub record AreTheNumbers (method : Method) (start : NonterminalString) (numbers : List ℕ) (g : Grammar) : Type 0 where
+pub record AreTheNumbers (method : Method) (items : Bool) (start : NonterminalString) (numbers : List ℕ) (g : Grammar) : Type 0 where
   pub states : List (State Bits)
   pub tables : AreMadeTables method g start states
-  pub laid_out : AreNumbersOf (lists_of g) numbers (contents g.terminals states)
+  pub laid_out : AreNumbersFor items g numbers states
 
 -- ---- faults
 -- there are tables of a grammar and a start symbol
@@ -75,25 +80,25 @@ pub data IsFaulty (method : Method) (text start : List ℕ) : Type 0 where
 -- ---- the outcome of a call
 -- an outcome is right for a text and a start symbol: the numbers of tables; conflicts, so that the
 -- grammar is not LR(1); a fault; or an allocation failure, of which nothing is said
-abbrev pub IsOutcome : Method → (text start : List ℕ) → Outcome → Type 0
-IsOutcome method text start (Numbers v) = OfInlined text (AreTheNumbers method (name_of start) v.items)
-IsOutcome method text start Conflicts = OfInlined text (λ g. ¬ IsLR1 (productions g) (name_of start))
-IsOutcome method text start Fault = IsFaulty method text start
-IsOutcome method text start Memory = Unit {0}
+abbrev pub IsOutcome : Method → (items : Bool) → (text start : List ℕ) → Outcome → Type 0
+IsOutcome method items text start (Numbers v) = OfInlined text (AreTheNumbers method items (name_of start) v.items)
+IsOutcome method items text start Conflicts = OfInlined text (λ g. ¬ IsLR1 (productions g) (name_of start))
+IsOutcome method items text start Fault = IsFaulty method text start
+IsOutcome method items text start Memory = Unit {0}
 
 -- an outcome is right for a grammar without marked nonterminals and a start symbol
-abbrev pub IsOutcomeFor : Method → NonterminalString → Grammar → Outcome → Type 0
-IsOutcomeFor method start g (Numbers v) = AreTheNumbers method start v.items g
-IsOutcomeFor method start g Conflicts = ¬ IsLR1 (productions g) start
-IsOutcomeFor method start g Fault = (get name_cmp g.nonterminals start ≡ None) ⊎ HasTables method start g
-IsOutcomeFor method start g Memory = Unit {0}
+abbrev pub IsOutcomeFor : Method → (items : Bool) → NonterminalString → Grammar → Outcome → Type 0
+IsOutcomeFor method items start g (Numbers v) = AreTheNumbers method items start v.items g
+IsOutcomeFor method items start g Conflicts = ¬ IsLR1 (productions g) start
+IsOutcomeFor method items start g Fault = (get name_cmp g.nonterminals start ≡ None) ⊎ HasTables method start g
+IsOutcomeFor method items start g Memory = Unit {0}
 
 -- an outcome is the numbers of states for a grammar, or says that they have none
-abbrev pub AreNumbersIfAny : Grammar → List (State Bits) → Outcome → Type 0
-AreNumbersIfAny g states (Numbers v) = AreNumbersOf (lists_of g) v.items (contents g.terminals states)
-AreNumbersIfAny g states Conflicts = ⊥
-AreNumbersIfAny g states Fault = Unit {0}
-AreNumbersIfAny g states Memory = ⊥
+abbrev pub AreNumbersIfAny : Bool → Grammar → List (State Bits) → Outcome → Type 0
+AreNumbersIfAny items g states (Numbers v) = AreNumbersFor items g v.items states
+AreNumbersIfAny items g states Conflicts = ⊥
+AreNumbersIfAny items g states Fault = Unit {0}
+AreNumbersIfAny items g states Memory = ⊥
 
 -- the status of an outcome
 abbrev pub status_of : Outcome → ℕ
@@ -110,8 +115,8 @@ numbers_in Fault = []
 numbers_in Memory = []
 
 -- a call has a status, and it copied the numbers of a right outcome to a room
-pub record AreGiven (method : Method) (text start : List ℕ) (status : ℕ) (old new : List ℕ) (count : ℕ) : Type 0 where
+pub record AreGiven (method : Method) (items : Bool) (text start : List ℕ) (status : ℕ) (old new : List ℕ) (count : ℕ) : Type 0 where
   pub outcome : Outcome
-  pub right : IsOutcome method text start outcome
+  pub right : IsOutcome method items text start outcome
   pub ended : status ≡ status_of outcome
   pub copied : IsCopied (numbers_in outcome) old new count

@@ -3,6 +3,7 @@
 #![tactic(auto)]
 
 pub mod ask;
+pub mod check;
 mod put;
 pub mod tables;
 mod words;

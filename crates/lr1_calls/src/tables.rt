@@ -3,7 +3,7 @@ ghost use Rattle.std.specs.Prelude.{◌≡◌, ℕ, List, IfOk};
 ghost use Rattle.lalrpop_base.specs.Words.{IsWellFormed};
 ghost use Rattle.lr1_calls.specs.Calls.{method_for};
 ghost use Rattle.lr1_calls.specs.Copied.{IsCopied, filled};
-ghost use Rattle.lr1_calls.specs.Tables.{AreGiven, AreNumbersIfAny, IsOutcome, IsOutcomeFor, IsTextOf, numbers_in, status_of};
+ghost use Rattle.lr1_calls.specs.Tables.{AreGiven, AreNumbersFor, AreNumbersIfAny, IsOutcome, IsOutcomeFor, IsTextOf, numbers_in, status_of};
 
 use crate::ask::method_for;
 use grammar_text::grammar::read;
@@ -21,7 +21,7 @@ use lalrpop_tables::lr1::build_states_or_count;
 use std::alloc::Global;
 use std::str::from_utf8;
 use table_numbers::error::NumbersError;
-use table_numbers::numbers::write;
+use table_numbers::numbers::{write, write_with_items};
 
 /// What a call for tables comes to. `Fault` also stands for tables without numbers.
 #[derive(Drop)]
@@ -32,20 +32,23 @@ pub(crate) enum Outcome {
     Memory,
 }
 
-/// The tables of the grammar text `text` for the start symbol `start`, as numbers. As many of the
-/// numbers as fit go to `out`, and how many there are to `length`. The result is the status: 0 for
-/// tables, 1 for conflicts, 2 for a fault, and 3 if an allocation fails. Only tables have numbers.
+/// The tables of the grammar text `text` for the start symbol `start`, as numbers, with the items of
+/// each state if `items` is `true`. As many of the numbers as fit go to `out`, and how many there
+/// are to `length`. The result is the status: 0 for tables, 1 for conflicts, 2 for a fault, and 3 if
+/// an allocation fails. Only tables have numbers.
 pub fn tables(
     alloc: Global,
     text: &[u8],
     start: &[u8],
     canonical: bool,
+    items: bool,
     out: &mut [u32],
     length: &mut usize,
 ) -> u8
-    ensures { AreGiven (method_for canonical) text.now start.now result out.old out.new length.new }
+    ensures { AreGiven (method_for canonical) items text.now start.now result out.old out.new
+        length.new }
 {
-    let outcome = outcome_of(alloc, text, start, method_for(canonical));
+    let outcome = outcome_of(alloc, text, start, method_for(canonical), items);
     give(&outcome, out, length)
 }
 
@@ -85,8 +88,14 @@ fn fill(numbers: &[u32], out: &mut [u32])
 }
 
 // The outcome for bytes.
-fn outcome_of(alloc: Global, text: &[u8], start: &[u8], method: Method) -> Outcome
-    ensures { IsOutcome method text.now start.now result }
+fn outcome_of(
+    alloc: Global,
+    text: &[u8],
+    start: &[u8],
+    method: Method,
+    items: bool,
+) -> Outcome
+    ensures { IsOutcome method items text.now start.now result }
 {
     let Ok(text) = from_utf8(text) else {
         return Outcome::Fault;
@@ -94,7 +103,7 @@ fn outcome_of(alloc: Global, text: &[u8], start: &[u8], method: Method) -> Outco
     let Ok(start) = from_utf8(start) else {
         return Outcome::Fault;
     };
-    match outcome_of_text(alloc, text, start, method) {
+    match outcome_of_text(alloc, text, start, method, items) {
         Ok(outcome) => outcome,
         Err(_) => Outcome::Memory,
     }
@@ -106,11 +115,12 @@ fn outcome_of_text(
     text: &str,
     start: &str,
     method: Method,
+    items: bool,
 ) -> Result<Outcome, OutOfMemory>
-    ensures { IfOk result (IsOutcome method text.now start.now) }
+    ensures { IfOk result (IsOutcome method items text.now start.now) }
 {
     match read(alloc, text) {
-        Ok(grammar) => outcome_of_grammar(alloc, grammar, start, method),
+        Ok(grammar) => outcome_of_grammar(alloc, grammar, start, method, items),
         Err(ReadError::Line(_)) => Ok(Outcome::Fault),
         Err(ReadError::TooManyActions) => Ok(Outcome::Fault),
         Err(ReadError::Memory) => Err(OutOfMemory),
@@ -123,15 +133,16 @@ fn outcome_of_grammar(
     grammar: Grammar,
     start: &str,
     method: Method,
+    items: bool,
 ) -> Result<Outcome, OutOfMemory>
     requires { IsWellFormed grammar }
     ensures { (text : List ℕ) →
         IsTextOf text grammar →
-        IfOk result (IsOutcome method text start.now) }
+        IfOk result (IsOutcome method items text start.now) }
 {
     let name = name_of(alloc, start)?;
     match inline(alloc, grammar) {
-        Ok(inlined) => outcome_of_inlined(alloc, &inlined, name, method),
+        Ok(inlined) => outcome_of_inlined(alloc, &inlined, name, method, items),
         Err(NormError::Cycle { span: _, name: _ }) => Ok(Outcome::Fault),
         Err(NormError::TooManyActions) => Ok(Outcome::Fault),
         Err(NormError::Memory) => Err(OutOfMemory),
@@ -144,9 +155,10 @@ fn outcome_of_inlined(
     grammar: &Grammar,
     start: NonterminalString,
     method: Method,
+    items: bool,
 ) -> Result<Outcome, OutOfMemory>
     requires { IsWellFormed grammar.now }
-    ensures { IfOk result (IsOutcomeFor method start grammar.now) }
+    ensures { IfOk result (IsOutcomeFor method items start grammar.now) }
 {
     if grammar.nonterminals.get(&start).is_none() {
         return Ok(Outcome::Fault);
@@ -156,7 +168,7 @@ fn outcome_of_inlined(
         ..Options::default()
     };
     match build_states_or_count(alloc, grammar, start, &options)? {
-        TablesOrCount::Tables(states) => numbers_of(alloc, grammar, &states),
+        TablesOrCount::Tables(states) => numbers_of(alloc, grammar, &states, items),
         TablesOrCount::Conflicts(_) => Ok(Outcome::Conflicts),
     }
 }
@@ -166,12 +178,28 @@ fn numbers_of(
     alloc: Global,
     grammar: &Grammar,
     states: &[Lr1State<'_>],
+    items: bool,
 ) -> Result<Outcome, OutOfMemory>
-    ensures { IfOk result (AreNumbersIfAny grammar.now states.now) }
+    ensures { IfOk result (AreNumbersIfAny items grammar.now states.now) }
 {
-    match write(alloc, grammar, states) {
+    match written(alloc, grammar, states, items) {
         Ok(numbers) => Ok(Outcome::Numbers(numbers)),
         Err(NumbersError::Memory) => Err(OutOfMemory),
         Err(_) => Ok(Outcome::Fault),
     }
+}
+
+// The numbers of states, with items or without.
+fn written(
+    alloc: Global,
+    grammar: &Grammar,
+    states: &[Lr1State<'_>],
+    items: bool,
+) -> Result<Vec<u32>, NumbersError>
+    ensures { IfOk result (λ numbers. AreNumbersFor items grammar.now numbers.items states.now) }
+{
+    if items {
+        return write_with_items(alloc, grammar, states);
+    }
+    write(alloc, grammar, states)
 }

@@ -49,7 +49,7 @@ fn called(
 ) -> Result<(Vec<u32>, usize, u8), AllocError> {
     let mut out = Vec::from_elem(alloc, BEFORE, room)?;
     let mut length = 7;
-    let status = tables(alloc, text, start, canonical, &mut out, &mut length);
+    let status = tables(alloc, text, start, canonical, false, &mut out, &mut length);
     Ok((out, length, status))
 }
 
@@ -146,7 +146,7 @@ impl Attempt for Call {
         let mut length = 7;
         self.out = [BEFORE; 40];
         let text = EXAMPLE.as_bytes();
-        let status = tables(alloc, text, b"S", true, &mut self.out, &mut length);
+        let status = tables(alloc, text, b"S", true, false, &mut self.out, &mut length);
         if status == 3 {
             return if length == 0 && has_numbers(&self.out, &[]) {
                 None

@@ -11,8 +11,8 @@ pub returns-in-Ok : goal.returns-in-Ok
 returns-in-Ok c = λ text of_text.
     let e = c.in-Ok.ensures in
     let inlining : IsInlining c.args.grammar c.in-Ok.inlined = record { inlined = e.inlined; well_formed = e.well_formed; unmentioned = e.unmentioned; terminal_lists = e.terminal_lists } in
-    let right = subst (λ (a : NonterminalString). IfOk c.outcome_of_inlined.result (IsOutcomeFor c.args.method a c.in-Ok.inlined)) c.in_ok-name.ensures c.outcome_of_inlined.ensures in
-    right_for_text c.args.method text c.args.start.now c.args.grammar c.in-Ok.inlined of_text inlining c.outcome_of_inlined.result right
+    let right = subst (λ (a : NonterminalString). IfOk c.outcome_of_inlined.result (IsOutcomeFor c.args.method c.args.items a c.in-Ok.inlined)) c.in_ok-name.ensures c.outcome_of_inlined.ensures in
+    right_for_text c.args.method c.args.items text c.args.start.now c.args.grammar c.in-Ok.inlined of_text inlining c.outcome_of_inlined.result right
 
 pub returns-in-Err-Cycle : goal.returns-in-Err-Cycle
 returns-in-Err-Cycle c = λ text of_text.
