@@ -23,11 +23,12 @@ extern "C" {
 
 /* What a call returns. */
 enum lr1_status {
-    /* There are tables, a parse tree, or nothing to report. */
+    /* There are tables, a parse tree, or nothing to report, or tables are faithful. */
     LR1_OK = 0,
-    /* There are conflicts or warnings, or a parse was refused or reached its limit. */
+    /* There are conflicts or warnings, a parse was refused or reached its limit, or tables do not pass
+     * the check. */
     LR1_REFUSED = 1,
-    /* The text, the words or the start symbol have a fault. */
+    /* The text, the words, the start symbol or the numbers have a fault. */
     LR1_FAULT = 2,
     /* malloc or realloc returned a null pointer. */
     LR1_NO_MEMORY = 3
@@ -76,6 +77,7 @@ uint8_t lr1_ask(const uint8_t *text, size_t text_length, const uint8_t *words, s
  * text       the grammar, as for lr1_ask
  * start      the name of the start symbol, in UTF-8
  * canonical  true for the canonical tables, and false for lane tables if the grammar has such
+ * items      true if each state has its items in the numbers, as lr1_check needs them
  * out, room  where the numbers go, and how many there is room for
  * length     gets how many numbers the tables have
  *
@@ -87,7 +89,24 @@ uint8_t lr1_ask(const uint8_t *text, size_t text_length, const uint8_t *words, s
  * same is asked of the caller as for lr1_ask.
  */
 uint8_t lr1_tables(const uint8_t *text, size_t text_length, const uint8_t *start, size_t start_length,
-                   bool canonical, uint32_t *out, size_t room, size_t *length);
+                   bool canonical, bool items, uint32_t *out, size_t room, size_t *length);
+
+/*
+ * Checks whether tables are faithful to a grammar, whatever program made them. The page
+ * docs/FORMATS.md says under "The check of tables" what that means.
+ *
+ * text            the grammar, as for lr1_ask
+ * start           the name of the start symbol, in UTF-8
+ * numbers, count  the tables as numbers with items, and how many numbers there are
+ * out, room       where a message goes, and how many bytes there are
+ * length          gets the number of bytes of the whole message, as for lr1_ask
+ *
+ * Returns LR1_OK for faithful tables, for which there is no message, and LR1_REFUSED for others. It
+ * returns LR1_FAULT for a fault of the text, the start symbol or the numbers. The message has the
+ * place of a wrong number. The same is asked of the caller as for lr1_ask.
+ */
+uint8_t lr1_check(const uint8_t *text, size_t text_length, const uint8_t *start, size_t start_length,
+                  const uint32_t *numbers, size_t count, uint8_t *out, size_t room, size_t *length);
 
 #ifdef __cplusplus
 }

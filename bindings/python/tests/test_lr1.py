@@ -147,6 +147,23 @@ class Calls(unittest.TestCase):
         for text, start in ((b"S = \xff", "S"), ("what", "S"), (SUMS, "T"), (SUMS, "")):
             self.assertEqual(lr1.table_numbers(text, start), (2, []))
 
+    def test_check(self):
+        for text in ('S = "x"', SUMS):
+            for canonical in (False, True):
+                status, numbers = lr1.table_numbers(text, "S", canonical, items=True)
+                self.assertEqual((status, lr1.check(text, "S", numbers)), (0, lr1.Answer(0, "")))
+        # `S = "x"` has two states, and so two lists of items. The first begins at place 27.
+        numbers = lr1.table_numbers('S = "x"', "S", True, items=True)[1]
+        self.assertEqual(numbers[27:], [1, 0, 0, 0, 1, 0, 1, 0])
+        other = [*numbers[:29], 1, *numbers[30:]]
+        self.assertEqual(lr1.check('S = "x"', "S", other), (1, "the tables are not faithful\n"))
+        fault = "the tables: place 2: 0 lists of items are not one for each state\n"
+        self.assertEqual(lr1.check('S = "x"', "S", lr1.table_numbers('S = "x"', "S")[1]), (2, fault))
+        self.assertEqual(lr1.check('S = "x"', "T", numbers), (2, "the start symbol is no nonterminal\n"))
+        self.assertEqual(lr1.check("what", "S", numbers), (2, "line 1: not a grammar line\n"))
+        with self.assertRaises(ValueError):
+            lr1.check('S = "x"', "S", [-1])
+
     def test_many_numbers(self):
         text = "\n".join([*(f'A{it} = "{it}" A{it + 1}' for it in range(9000)), "A9000 ="])
         status, numbers = lr1.table_numbers(text, "A0")

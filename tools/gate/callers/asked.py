@@ -147,8 +147,8 @@ def changed(chance, content):
 
 
 def refused_questions():
-    """The questions whose allocations are refused: each kind of answer, and tables as numbers, for which
-    there is the start symbol alone. Each is asked by both methods."""
+    """The questions whose allocations are refused: each kind of answer, tables as numbers, for which there
+    is the start symbol alone, and a check of these. Each is asked by both methods."""
     texts = ('S = E\nE = E "+" E\nE = "n"\n', 'S = L\nL = L I\nL =\ninline I\nI = "a"\nI = "b"\n', "S = x\"\n")
-    words = [*(f"S\0{it}" for it in (*SHOWN, "parse\0" "99\0a\0b", "report", "explain", "none")), "S"]
+    words = [*(f"S\0{it}" for it in (*SHOWN, "parse\0" "99\0a\0b", "report", "explain", "none")), "S", "S\0"]
     return [Question(text.encode(), it.encode(), by) for text in texts for it in words for by in (False, True)]

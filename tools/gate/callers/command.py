@@ -11,6 +11,7 @@ filled. If none is given, it is made over the libraries that `rt ci` left, and s
 - 20,000 random questions, with several rooms, write nothing outside the room, and read nothing outside
   the text and the words. AddressSanitizer looks on if gcc has it.
 - Some texts have the numbers of their tables that docs/FORMATS.md gives them, with rooms of each size.
+  Some numbers have the verdict of the check that it gives them.
 - Each allocation of some questions is refused in turn, alone and with all after it. The status is 3,
   and nothing leaks. If one is refused alone, the answer may also be the right one, since a list that
   finds no room to spare grows by less.
@@ -59,6 +60,7 @@ def parts_of(stored):
         ("refused allocations", in_c.refused),
         ("examples", in_c.examples),
         ("numbers", in_c.numbers),
+        ("checks", in_c.checks),
         ("names", in_c.names),
     )
 

@@ -12,10 +12,25 @@ ASAN = ("-fsanitize=address", "-g")
 # How many random questions there are, and how much of one is printed.
 RANDOM, LONGEST = 20_000, 300
 
-# Texts and start symbols, each with the status and the numbers of its tables by docs/FORMATS.md.
+# The numbers with items of the canonical tables of the first text below.
+WHOLE = (
+    "1280454996 1 3 1 2 2 1 3 19 21 28 33 38 45 49 0 1 1 1 1 1 1 0 2 1 0 1 0 0 0 1 1 0 0 0 1 0 0 2 0 0 0 1 0 0 1 1 1 0 "
+    "1 0 1 0"
+)
+# Words of a call for canonical tables, each with the status and the numbers by docs/FORMATS.md.
 NUMBERS = (
-    ('S = A\nA = "x"', "S", "0 1280454996 1 0 1 2 2 1 3 16 18 25 30 0 1 1 1 1 1 1 0 2 1 0 1 0 0 0 1 1 0 0 0 1 0 0"),
-    ("S =\nS =", "S", "1"), ("what", "S", "2"), ('S = "x"', "T", "2"), ("", "", "2"),
+    (('S = A\nA = "x"', "S"), "0 1280454996 1 0 1 2 2 1 3 16 18 25 30 0 1 1 1 1 1 1 0 2 1 0 1 0 0 0 1 1 0 0 0 1 0 0"),
+    (('S = A\nA = "x"', "S", "items"), f"0 {WHOLE}"),
+    (("S =\nS =", "S"), "1"), (("what", "S"), "2"), (('S = "x"', "T"), "2"), (("", ""), "2"),
+)
+# A place of the numbers with items, another number there, and the status and the message of the check.
+# A place of None is a number of numbers. These are the examples of docs/FORMATS.md.
+CHECKS = (
+    (0, 1280454996, "0 "),
+    (44, 1, "2 the tables: state 0 has a number that names nothing, or a name twice\n"),
+    (8, 20, "2 the tables: place 8: the number is not the one of the tables\n"),
+    (None, 52, "2 the tables: place 52: the numbers end before the tables\n"),
+    (40, 1, "1 the tables are not faithful\n"),
 )
 
 CPP_CALLER = """#include <lr1.h>
@@ -135,6 +150,22 @@ def numbers(library, room):
     """Tables as numbers, with each smaller room."""
     flags, variables = sanitizer(room)
     program = compiled(library, room, "numbers", f"{HERE}/numbers.c", *flags)
-    found = [(*it, ran(program, *it[:2], **variables)) for it in NUMBERS]
-    faults = [f"{text!r} from {start!r} has {said!r}, expected {it!r}" for text, start, it, said in found if said != it]
-    return f"{len(NUMBERS)} texts", faults
+    return f"{len(NUMBERS)} texts", unexpected(program, NUMBERS, variables)
+
+
+def unexpected(program, rows, variables):
+    """A line for each row whose words have another answer than the one beside them."""
+    found = [(words, it, ran(program, *words, **variables)) for words, it in rows]
+    return [f"{words!r} has {said!r}, expected {it!r}" for words, it, said in found if said != it]
+
+
+def checks(library, room):
+    """Checks of tables, with each smaller room."""
+    flags, variables = sanitizer(room)
+    program = compiled(library, room, "check", f"{HERE}/check.c", *flags)
+    rows, whole = [(("what", "S"), "2 line 1: not a grammar line\n")], WHOLE.split()
+    for place, number, expected in CHECKS:
+        numbers = whole[:number] if place is None else [*whole[:place], str(number), *whole[place + 1 :]]
+        rows.append((("S = A\nA = \"x\"", "S", *numbers), expected))
+    rows.append((("S = A\nA = \"x\"", "T", *whole), "2 the start symbol is no nonterminal\n"))
+    return f"{len(rows)} calls", unexpected(program, rows, variables)

@@ -1,6 +1,7 @@
 /*
- * Prints the status and the numbers of the tables of a grammar: numbers TEXT START. Each smaller room
- * must get the first numbers. Numbers after those of the tables must keep their values.
+ * Prints the status and the numbers of the tables of a grammar: numbers TEXT START. With a third word
+ * the numbers have items. Each smaller room must get the first numbers. Numbers after those of the
+ * tables must keep their values.
  */
 #include <lr1.h>
 #include <stdio.h>
@@ -9,10 +10,12 @@
 
 enum { BEFORE = 170, MORE = 3 };
 
+static bool items = false;
+
 static uint8_t called(char **words, uint32_t *out, size_t room, size_t *length)
 {
     return lr1_tables((const uint8_t *)words[1], strlen(words[1]), (const uint8_t *)words[2], strlen(words[2]),
-                      false, out, room, length);
+                      true, items, out, room, length);
 }
 
 static void expect(bool holds, const char *text, size_t room)
@@ -36,7 +39,8 @@ static uint32_t *block(size_t room)
 int main(int count, char **words)
 {
     size_t length = 0, again = 0;
-    expect(count == 3, "the words are TEXT START", 0);
+    expect(count == 3 || count == 4, "the words are TEXT START [items]", 0);
+    items = count == 4;
     uint32_t *none = block(0);
     const uint8_t status = called(words, none, 0, &length);
     free(none);

@@ -2,11 +2,12 @@
  * refuse QUESTIONS
  *
  * Asks each question over and over, while one allocation is refused, or while all from one on are. A
- * question with a single word asks for the tables with that start symbol, as numbers. This program is
- * linked so that the library calls the functions below in the place of malloc, realloc and free. Each
- * such call must free all that it took, and return LR1_NO_MEMORY. If only one allocation is refused, it
- * may also return the right answer, since a list that finds no room to spare grows by less. So it may
- * if all that was refused is that blocks become smaller, since a call can keep the larger blocks.
+ * question with a single word asks for the tables with that start symbol, as numbers with items. If an
+ * empty word is after it, these tables are checked. This program is linked so that the library calls
+ * the functions below in the place of malloc, realloc and free. Each such call must free all that it
+ * took, and return LR1_NO_MEMORY. If only one allocation is refused, it may also return the right
+ * answer, since a list that finds no room to spare grows by less. So it may if all that was refused is
+ * that blocks become smaller, since a call can keep the larger blocks.
  */
 #include "questions.h"
 #include <malloc.h>
@@ -64,27 +65,44 @@ struct answer {
     size_t length;
 };
 
-static struct answer right, other;
+static struct answer right, other, checked;
 
-static bool is_for_tables(const struct question *it)
+enum call { ASK, TABLES, CHECK };
+
+static enum call call_of(const struct question *it)
 {
-    return memchr(it->words.bytes, 0, it->words.length) == NULL;
+    const uint8_t *end = memchr(it->words.bytes, 0, it->words.length);
+    if (end == NULL)
+        return TABLES;
+    return (size_t)(end - it->words.bytes) + 1 == it->words.length ? CHECK : ASK;
+}
+
+/* Writes the tables with items of a question whose start symbol has so many bytes. */
+static uint8_t write_tables(struct answer *to, const struct question *it, size_t start)
+{
+    return lr1_tables(it->text.bytes, it->text.length, it->words.bytes, start, it->canonical, true,
+                      to->numbers, ROOM, &to->length);
 }
 
 static uint8_t called(struct answer *to, const struct question *it)
 {
-    if (is_for_tables(it))
-        return lr1_tables(it->text.bytes, it->text.length, it->words.bytes, it->words.length, it->canonical,
-                          to->numbers, ROOM, &to->length);
-    return lr1_ask(it->text.bytes, it->text.length, it->words.bytes, it->words.length, it->canonical,
-                   to->bytes, ROOM, &to->length);
+    switch (call_of(it)) {
+    case TABLES:
+        return write_tables(to, it, it->words.length);
+    case CHECK:
+        return lr1_check(it->text.bytes, it->text.length, it->words.bytes, it->words.length - 1,
+                         checked.numbers, checked.length, to->bytes, ROOM, &to->length);
+    default:
+        return lr1_ask(it->text.bytes, it->text.length, it->words.bytes, it->words.length, it->canonical,
+                       to->bytes, ROOM, &to->length);
+    }
 }
 
 static bool are_equal(const struct answer *a, const struct answer *b, const struct question *it)
 {
     if (a->status != b->status || a->length != b->length)
         return false;
-    if (is_for_tables(it))
+    if (call_of(it) == TABLES)
         return memcmp(a->numbers, b->numbers, a->length * sizeof *a->numbers) == 0;
     return memcmp(a->bytes, b->bytes, a->length) == 0;
 }
@@ -110,6 +128,9 @@ static struct {
 /* Refuses each allocation of a question in turn. */
 static void refuse_each(const struct question *it, size_t number, bool all_after)
 {
+    memory.refused = NONE;
+    if (call_of(it) == CHECK)
+        write_tables(&checked, it, it->words.length - 1);
     ask(&right, it, number, NONE, all_after);
     long count = memory.made;
     if (right.status == LR1_NO_MEMORY)

@@ -21,10 +21,10 @@ uint32_t lr1_version(void) { return 1; }
 uint32_t lr1_other(void) { return 1; }
 #endif
 uint8_t lr1_tables(const uint8_t *text, size_t text_length, const uint8_t *start, size_t start_length,
-                   bool canonical, uint32_t *out, size_t room, size_t *length)
+                   bool canonical, bool items, uint32_t *out, size_t room, size_t *length)
 {
     void *block = malloc(10);
-    (void)text, (void)start, (void)canonical;
+    (void)text, (void)start, (void)canonical, (void)items;
     if (block == NULL && FAULT != 15)
         return LR1_NO_MEMORY;
     free(block);
@@ -33,6 +33,21 @@ uint8_t lr1_tables(const uint8_t *text, size_t text_length, const uint8_t *start
         out[at] = FAULT == 13 ? (uint32_t)room : 7;
     if (FAULT == 14 && room > *length)
         out[*length] = 7;
+    return LR1_REFUSED;
+}
+uint8_t lr1_check(const uint8_t *text, size_t text_length, const uint8_t *start, size_t start_length,
+                  const uint32_t *numbers, size_t count, uint8_t *out, size_t room, size_t *length)
+{
+    void *block = malloc(10);
+    (void)text, (void)text_length, (void)start, (void)start_length;
+    if (block == NULL && FAULT != 16)
+        return LR1_NO_MEMORY;
+    free(block);
+    *length = count;
+    for (size_t at = 0; at < count && at < room; at++)
+        out[at] = FAULT == 17 ? (uint8_t)room : (uint8_t)('0' + numbers[at] % 10);
+    if (FAULT == 18 && room > count)
+        out[count] = '7';
     return LR1_REFUSED;
 }
 uint8_t lr1_ask(const uint8_t *text, size_t text_length, const uint8_t *words, size_t words_length,
@@ -122,7 +137,7 @@ class Refused(unittest.TestCase):
 
     def test_right_library(self):
         said, faults = self.refused(0)
-        self.assertRegex(said, r"^84 questions, (\d+) refused allocations, \1 of them reported$")
+        self.assertRegex(said, r"^90 questions, (\d+) refused allocations, \1 of them reported$")
         self.assertEqual(faults, [])
 
     def test_faults(self):
@@ -133,10 +148,12 @@ class Refused(unittest.TestCase):
                 self.assertIn("words b'S\\x00", faults[0])
                 self.assertIn(text, faults[1])
 
-    def test_fault_of_tables(self):
-        _, faults = self.refused(15)
-        self.assertIn("words b'S',", faults[0])
-        self.assertIn("all after it; question 26: it was not reported", faults[1])
+    def test_faults_of_other_calls(self):
+        for fault, words, number in ((15, "b'S',", 26), (16, "b'S\\x00',", 28)):
+            with self.subTest(fault):
+                _, faults = self.refused(fault)
+                self.assertIn(f"words {words}", faults[0])
+                self.assertIn(f"all after it; question {number}: it was not reported", faults[1])
 
 
 class Names(unittest.TestCase):
@@ -144,15 +161,15 @@ class Names(unittest.TestCase):
         for fault, count in ((0, 0), (12, 2)):
             with self.subTest(fault), tempfile.TemporaryDirectory() as room:
                 said, faults = in_c.names(library(room, fault), room)
-                self.assertEqual((said, len(faults)), ("3 calls", count))
+                self.assertEqual((said, len(faults)), ("4 calls", count))
 
 
 class Numbers(unittest.TestCase):
     def test_numbers(self):
         with tempfile.TemporaryDirectory() as room:
             said, faults = in_c.numbers(library(room, 0), room)
-        self.assertEqual((said, len(faults)), ("5 texts", 5))
-        self.assertIn("'T' has '1 7 7 7 7 7 7 7 7', expected '2'", faults[3])
+        self.assertEqual((said, len(faults)), ("6 texts", 6))
+        self.assertIn("'T') has '1 7 7 7 7 7 7 7 7', expected '2'", faults[4])
 
     def test_faults(self):
         for fault, text in ((13, "other numbers, with room for 1 "), (14, "a number after the answer was written")):
@@ -219,3 +236,17 @@ class Pages(unittest.TestCase):
             parts.ran("sh", "-c", "echo out; exit 3")
         self.assertEqual(parts.lacks("sh", "no-such-command"), "left out: no-such-command is not on the path")
         self.assertTrue(os.path.isfile(f"{parts.BINDINGS}/c/example.c"))
+
+
+class Checks(unittest.TestCase):
+    def test_checks(self):
+        with tempfile.TemporaryDirectory() as room:
+            said, faults = in_c.checks(library(room, 0), room)
+        self.assertEqual((said, len(faults)), ("7 calls", 7))
+        self.assertIn("has '1 6131221391", faults[1])
+
+    def test_faults(self):
+        for fault, text in ((17, "other bytes, with room for 1 "), (18, "a byte after the message was written")):
+            with self.subTest(fault), tempfile.TemporaryDirectory() as room:
+                with self.assertRaisesRegex(parts.Failed, text):
+                    in_c.checks(library(room, fault), room)

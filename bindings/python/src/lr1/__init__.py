@@ -12,7 +12,7 @@
 [S: [E: [E: "n"], "+", "n"]]
 """
 
-from ._library import Answer, ask, table_numbers, version
+from ._library import Answer, ask, check, table_numbers, version
 from .errors import ConflictsError, GrammarError, LimitError, Lr1Error, ParseError, RefusedError
 from .grammar import Finding, Grammar, Literal, Symbol
 from .tables import Tables
@@ -34,6 +34,7 @@ __all__ = [
     "Symbol",
     "Tables",
     "ask",
+    "check",
     "table_numbers",
     "version",
 ]

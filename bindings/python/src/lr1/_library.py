@@ -18,7 +18,8 @@ OK, REFUSED, FAULT, NO_MEMORY = range(4)
 class Answer(NamedTuple):
     """What the library returns.
 
-    `status` is 0 for tables or a tree, 1 for conflicts, a refusal or a limit, and 2 for a fault.
+    `status` is 0 for tables or a tree, 1 for conflicts, a refusal or a limit, and 2 for a fault. A
+    check has the status 0 for faithful tables, and 1 for others.
     """
 
     status: int
@@ -38,15 +39,14 @@ def _loaded(path: str) -> ctypes.CDLL:
         library.lr1_version.argtypes = []
         library.lr1_ask.restype = ctypes.c_uint8
         library.lr1_tables.restype = ctypes.c_uint8
+        library.lr1_check.restype = ctypes.c_uint8
     except (OSError, AttributeError) as why:
         raise ImportError(f"{path} is not the library lr1: {why}") from why
-    library.lr1_ask.argtypes = library.lr1_tables.argtypes = [
-        *(ctypes.c_char_p, ctypes.c_size_t),
-        *(ctypes.c_char_p, ctypes.c_size_t),
-        ctypes.c_bool,
-        *(ctypes.c_void_p, ctypes.c_size_t),
-        ctypes.POINTER(ctypes.c_size_t),
-    ]
+    given = [ctypes.c_char_p, ctypes.c_size_t] * 2
+    room = [ctypes.c_void_p, ctypes.c_size_t, ctypes.POINTER(ctypes.c_size_t)]
+    library.lr1_ask.argtypes = [*given, ctypes.c_bool, *room]
+    library.lr1_tables.argtypes = [*given, ctypes.c_bool, ctypes.c_bool, *room]
+    library.lr1_check.argtypes = [*given, ctypes.c_void_p, ctypes.c_size_t, *room]
     if library.lr1_version() != _VERSION:
         raise ImportError(f"{path} has version {library.lr1_version()}, and version {_VERSION} is needed")
     return library
@@ -85,10 +85,13 @@ def ask(text: Union[str, bytes], words: Iterable[str], canonical: bool = False) 
         room = length.value
 
 
-def table_numbers(text: Union[str, bytes], start: str, canonical: bool = False) -> Tuple[int, List[int]]:
+def table_numbers(
+    text: Union[str, bytes], start: str, canonical: bool = False, items: bool = False
+) -> Tuple[int, List[int]]:
     """The status and the numbers of the tables of a grammar, which docs/FORMATS.md describes.
 
-    There are numbers only if the status is 0. It is 1 for conflicts and 2 for a fault.
+    There are numbers only if the status is 0. It is 1 for conflicts and 2 for a fault. With `items`,
+    each state has its items, as `check` needs them.
 
     >>> status, numbers = table_numbers('S = "x"', "S")
     >>> status, numbers[3:8]
@@ -99,10 +102,40 @@ def table_numbers(text: Union[str, bytes], start: str, canonical: bool = False) 
     while True:
         out = (ctypes.c_uint32 * room)()
         status = _LIBRARY.lr1_tables(
-            given, len(given), name, len(name), canonical, out, room, ctypes.byref(length)
+            given, len(given), name, len(name), canonical, items, out, room, ctypes.byref(length)
         )
         if status == NO_MEMORY:
             raise MemoryError("the library lr1 found no memory")
         if length.value <= room:
             return status, out[: length.value]
+        room = length.value
+
+
+def check(text: Union[str, bytes], start: str, numbers: Iterable[int]) -> Answer:
+    """Checks whether tables are faithful to a grammar, whatever program made them.
+
+    The tables are numbers with items, which docs/FORMATS.md describes. The status is 0 for faithful
+    tables, 1 for tables that do not pass the check, and 2 for a fault. Then there is a message.
+
+    >>> _, numbers = table_numbers('S = "x"', "S", items=True)
+    >>> check('S = "x"', "S", numbers)
+    Answer(status=0, text='')
+    >>> check('S = "x"', "S", numbers[:9])
+    Answer(status=2, text='the tables: place 9: the numbers end before the tables\\n')
+    """
+    numbers = list(numbers)
+    if not all(0 <= it < 1 << 32 for it in numbers):
+        raise ValueError("a number has more than 32 bits")
+    given = text.encode() if isinstance(text, str) else bytes(text)
+    name, room, length = start.encode(), _ROOM, ctypes.c_size_t()
+    tables = (ctypes.c_uint32 * len(numbers))(*numbers)
+    while True:
+        out = ctypes.create_string_buffer(room)
+        status = _LIBRARY.lr1_check(
+            given, len(given), name, len(name), tables, len(numbers), out, room, ctypes.byref(length)
+        )
+        if status == NO_MEMORY:
+            raise MemoryError("the library lr1 found no memory")
+        if length.value <= room:
+            return Answer(status, ctypes.string_at(out, length.value).decode())
         room = length.value

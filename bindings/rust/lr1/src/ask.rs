@@ -4,6 +4,8 @@ use crate::Error;
 
 /// How many bytes or numbers the first call has room for.
 const ROOM: usize = 1 << 16;
+/// How many bytes of a message the first call has room for.
+const MESSAGE: usize = 1 << 8;
 
 /// How tables are made.
 #[derive(Clone, Copy, Debug, Default, PartialEq, Eq)]
@@ -18,11 +20,12 @@ pub enum Method {
 /// What an answer says.
 #[derive(Clone, Copy, Debug, PartialEq, Eq)]
 pub enum Status {
-    /// There are tables, a parse tree, or nothing to report.
+    /// There are tables, a parse tree, or nothing to report, or tables are faithful.
     Ok,
-    /// There are conflicts or warnings, or a parse was refused or reached its limit.
+    /// There are conflicts or warnings, a parse was refused or reached its limit, or tables do not
+    /// pass the check.
     Refused,
-    /// The text or the words have a fault, and the answer's text is a message.
+    /// The text, the words or the numbers have a fault, and the answer's text is a message.
     Fault,
 }
 
@@ -31,7 +34,7 @@ pub enum Status {
 pub struct Answer {
     /// What the text is.
     pub status: Status,
-    /// What the program writes to standard output, or else to standard error.
+    /// What the program writes to standard output, or else to standard error, or a message.
     pub text: String,
 }
 
@@ -118,12 +121,25 @@ pub fn table_numbers(
     start: &str,
     method: Method,
 ) -> Result<(Status, Vec<u32>), Error> {
+    numbers(text.as_ref(), start.as_bytes(), method, false)
+}
+
+/// The same as [`table_numbers`], with the items of each state. [`check`] needs them.
+pub fn table_numbers_with_items(
+    text: impl AsRef<[u8]>,
+    start: &str,
+    method: Method,
+) -> Result<(Status, Vec<u32>), Error> {
+    numbers(text.as_ref(), start.as_bytes(), method, true)
+}
+
+fn numbers(text: &[u8], start: &[u8], method: Method, items: bool) -> Result<(Status, Vec<u32>), Error> {
     let mut out = Vec::new();
     let mut length = ROOM;
     loop {
         out.try_reserve_exact(length).map_err(|_| Error::OutOfMemory)?;
         out.resize(length, 0);
-        let status = call_for_tables(text.as_ref(), start.as_bytes(), method, &mut out, &mut length);
+        let status = call_for_tables(text, start, method, items, &mut out, &mut length);
         if status == lr1_sys::LR1_NO_MEMORY {
             return Err(Error::OutOfMemory);
         }
@@ -135,7 +151,14 @@ pub fn table_numbers(
     }
 }
 
-fn call_for_tables(text: &[u8], start: &[u8], method: Method, out: &mut [u32], length: &mut usize) -> u8 {
+fn call_for_tables(
+    text: &[u8],
+    start: &[u8],
+    method: Method,
+    items: bool,
+    out: &mut [u32],
+    length: &mut usize,
+) -> u8 {
     // SAFETY: each pointer is that of a slice or of a reference, with its length. `out` and `length`
     // are borrowed mutably, so nothing overlaps them.
     unsafe {
@@ -145,6 +168,56 @@ fn call_for_tables(text: &[u8], start: &[u8], method: Method, out: &mut [u32], l
             start.as_ptr(),
             start.len(),
             method == Method::Canonical,
+            items,
+            out.as_mut_ptr(),
+            out.len(),
+            length,
+        )
+    }
+}
+
+/// Checks whether tables are faithful to a grammar, whatever program made them. They are numbers with
+/// items, which `docs/FORMATS.md` describes. The status is `Ok` for faithful tables, and there is no
+/// text then. It is `Refused` for tables that do not pass the check, and `Fault` for a fault of the
+/// grammar, the start symbol or the numbers.
+///
+/// ```
+/// let (_, mut numbers) = lr1::table_numbers_with_items("S = \"x\"", "S", lr1::Method::Lane)?;
+/// assert_eq!(lr1::check("S = \"x\"", "S", &numbers)?.status, lr1::Status::Ok);
+/// numbers[1] = 2;
+/// let answer = lr1::check("S = \"x\"", "S", &numbers)?;
+/// assert_eq!(answer.text, "the tables: place 1: version 2 is unknown\n");
+/// # Ok::<(), lr1::Error>(())
+/// ```
+pub fn check(text: impl AsRef<[u8]>, start: &str, numbers: &[u32]) -> Result<Answer, Error> {
+    let text = text.as_ref();
+    let mut out = vec![0; MESSAGE];
+    let mut length = MESSAGE;
+    let mut status = call_for_check(text, start.as_bytes(), numbers, &mut out, &mut length);
+    if length > out.len() {
+        out.try_reserve_exact(length - MESSAGE)
+            .map_err(|_| Error::OutOfMemory)?;
+        out.resize(length, 0);
+        status = call_for_check(text, start.as_bytes(), numbers, &mut out, &mut length);
+    }
+    if status == lr1_sys::LR1_NO_MEMORY {
+        return Err(Error::OutOfMemory);
+    }
+    out.truncate(length);
+    answer(status, out)
+}
+
+fn call_for_check(text: &[u8], start: &[u8], numbers: &[u32], out: &mut [u8], length: &mut usize) -> u8 {
+    // SAFETY: each pointer is that of a slice or of a reference, with its length. `out` and `length`
+    // are borrowed mutably, so nothing overlaps them.
+    unsafe {
+        lr1_sys::lr1_check(
+            text.as_ptr(),
+            text.len(),
+            start.as_ptr(),
+            start.len(),
+            numbers.as_ptr(),
+            numbers.len(),
             out.as_mut_ptr(),
             out.len(),
             length,

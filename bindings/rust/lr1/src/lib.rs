@@ -20,7 +20,7 @@
 //! - [`Tables`] has the states and the conflicts, parses, and makes reports.
 //! - [`Grammar::check`] finds what is wrong or doubtful with a grammar.
 //! - [`ask`] asks any question of the library, as its programs are asked.
-//! - [`table_numbers`] returns the tables as one list of numbers.
+//! - [`table_numbers`] returns the tables as one list of numbers, and [`check`] checks such a list.
 #![deny(missing_docs)]
 
 mod ask;
@@ -30,7 +30,7 @@ mod json;
 mod tables;
 mod tree;
 
-pub use ask::{ask, table_numbers, version, Answer, Method, Status};
+pub use ask::{ask, check, table_numbers, table_numbers_with_items, version, Answer, Method, Status};
 pub use error::Error;
 pub use grammar::{Finding, Grammar, Symbol};
 pub use tables::{Action, Conflict, Item, ParseOutcome, Production, Reduction, State, Tables};

@@ -1,7 +1,8 @@
 //! Tests of the crate.
 
 use lr1::Symbol::{Literal, Nonterminal};
-use lr1::{ask, table_numbers, version, Action, Error, Grammar, Method, ParseOutcome, Status};
+use lr1::{ask, check, table_numbers, table_numbers_with_items, version};
+use lr1::{Action, Error, Grammar, Method, ParseOutcome, Status};
 use std::{error, thread};
 
 const SUMS: &str = "S = E\nE = E \"+\" \"n\"\nE = \"n\"\n";
@@ -251,5 +252,31 @@ fn threads() -> Result<(), Error> {
             assert!(matches!(it.join().unwrap(), Ok(ParseOutcome::Tree(_))));
         }
     });
+    Ok(())
+}
+
+#[test]
+fn checks() -> Result<(), Error> {
+    for method in [Method::Lane, Method::Canonical] {
+        for text in [SUMS, BRACKETS] {
+            let (status, numbers) = table_numbers_with_items(text, "S", method)?;
+            let answer = check(text, "S", &numbers)?;
+            assert_eq!(
+                (status, answer.status, answer.text.as_str()),
+                (Status::Ok, Status::Ok, "")
+            );
+        }
+    }
+    let (_, numbers) = table_numbers_with_items(SUMS, "S", Method::Canonical)?;
+    let answer = check(BRACKETS, "S", &numbers)?;
+    assert_eq!(answer.status, Status::Fault);
+    assert!(answer.text.starts_with("the tables: place 3: "));
+    let answer = check(SUMS, "none", &numbers)?;
+    assert_eq!(answer.text, "the start symbol is no nonterminal\n");
+    let mut text = "A".repeat(1000);
+    text.insert_str(0, "inline ");
+    text.push_str(&format!("\n{0} = {0}", "A".repeat(1000)));
+    let answer = check(&text, "S", &numbers)?;
+    assert_eq!(answer.text, format!("cyclic inline of {}\n", "A".repeat(1000)));
     Ok(())
 }
