@@ -38,9 +38,9 @@ pub extern "C" fn lr1_ask(
 }
 
 /// The LR(1) tables of the grammar text `text` for the start symbol `start`, as numbers, with the
-/// items of each state if `items` is `true`. As many of the numbers as fit go to `out`, and how many
-/// there are to `length`. The result is the status: 0 for tables, 1 for conflicts, 2 for a fault,
-/// and 3 if an allocation fails. Only tables have numbers.
+/// items of each state if `items` is `true`. As many of the numbers as fit go to `out`, and how
+/// many there are to `length`. The result is the status: 0 for tables, 1 for conflicts, 2 for a
+/// fault, and 3 if an allocation fails. Only tables have numbers.
 #[unsafe(no_mangle)]
 pub extern "C" fn lr1_tables(
     alloc: Global,

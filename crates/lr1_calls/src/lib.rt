@@ -1,5 +1,5 @@
-//! What the programs `lrtab` and `lrshow` print of a grammar, and its tables as numbers, from memory
-//! to memory.
+//! What the programs `lrtab` and `lrshow` print of a grammar, its tables as numbers, and a check of
+//! tables, from memory to memory.
 #![tactic(auto)]
 
 pub mod ask;

@@ -32,10 +32,10 @@ pub(crate) enum Outcome {
     Memory,
 }
 
-/// The tables of the grammar text `text` for the start symbol `start`, as numbers, with the items of
-/// each state if `items` is `true`. As many of the numbers as fit go to `out`, and how many there
-/// are to `length`. The result is the status: 0 for tables, 1 for conflicts, 2 for a fault, and 3 if
-/// an allocation fails. Only tables have numbers.
+/// The tables of the grammar text `text` for the start symbol `start`, as numbers, with the items
+/// of each state if `items` is `true`. As many of the numbers as fit go to `out`, and how many there
+/// are to `length`. The result is the status: 0 for tables, 1 for conflicts, 2 for a fault, and 3
+/// if an allocation fails. Only tables have numbers.
 pub fn tables(
     alloc: Global,
     text: &[u8],

@@ -15,6 +15,10 @@ const WHOLE: [u32; 53] = [
     1, 0, 0, 0, 1, 1, 0, 0, 0, 1, 0, 0, 2, 0, 0, 0, 1, 0, 0, 1, 1, 1, 0, 1, 0, 1, 0,
 ];
 
+// A grammar that is not LALR(1), with a marked nonterminal.
+const CROSSED: &str =
+    "S = \"a\" A \"d\"\nS = \"b\" B \"d\"\nS = \"a\" B \"e\"\nS = \"b\" A \"e\"\nA = C\nB = \"c\"\nC = \"c\"\ninline C";
+
 // What a byte of the room is before the call.
 const BEFORE: u8 = 170;
 
@@ -72,14 +76,13 @@ fn numbers_of(alloc: Global, text: &str, canonical: bool) -> Result<Vec<u32>, Fa
     Err(Fail::from("no tables"))
 }
 
-// The tables of each method are faithful. The text has a marked nonterminal, and is not LALR(1).
+// The tables of each method are faithful.
 #[test]
 fn faithful_tables(rt: HostRuntime) -> Result<(), Fail> {
     let alloc = rt.alloc();
-    let text = "S = \"a\" A \"d\"\nS = \"b\" B \"d\"\nS = \"a\" B \"e\"\nS = \"b\" A \"e\"\nA = C\nB = C\nC = \"c\"\ninline C";
     for canonical in [false, true] {
-        let numbers = numbers_of(alloc, text, canonical)?;
-        expect(&rt, alloc, text.as_bytes(), b"S", &numbers, (0, ""))?;
+        let numbers = numbers_of(alloc, CROSSED, canonical)?;
+        expect(&rt, alloc, CROSSED.as_bytes(), b"S", &numbers, (0, ""))?;
     }
     expect(&rt, alloc, EXAMPLE.as_bytes(), b"S", &WHOLE, (0, ""))
 }
@@ -92,6 +95,15 @@ fn other_tables(rt: HostRuntime) -> Result<(), Fail> {
     expect(&rt, alloc, EXAMPLE.as_bytes(), b"A", &WHOLE, no)?;
     let other = "S = \"x\"\nA = \"x\"";
     expect(&rt, alloc, other.as_bytes(), b"S", &WHOLE, no)
+}
+
+// The numbers of the example with another number at a place.
+fn with_number(alloc: Global, place: usize, number: u32) -> Result<Vec<u32>, Fail> {
+    let mut numbers = Vec::from_slice(alloc, &WHOLE)?;
+    if place < numbers.len() {
+        numbers[place] = number;
+    }
+    Ok(numbers)
 }
 
 // Each row has a place of the numbers, another number there, and the expected result.
@@ -112,10 +124,7 @@ fn changed_tables(rt: HostRuntime) -> Result<(), Fail> {
         ),
     ];
     for (place, number, status, message) in rows.iter() {
-        let mut numbers = Vec::from_slice(alloc, &WHOLE)?;
-        if *place < numbers.len() {
-            numbers[*place] = *number;
-        }
+        let numbers = with_number(alloc, *place, *number)?;
         let expected = (*status, *message);
         expect(&rt, alloc, EXAMPLE.as_bytes(), b"S", &numbers, expected)?;
     }

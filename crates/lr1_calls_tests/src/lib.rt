@@ -1,5 +1,5 @@
-//! Tests of the calls by which other languages ask what the programs print, ask for tables, and check
-//! tables.
+//! Tests of the calls by which other languages ask what the programs print, ask for tables, and
+//! check tables.
 #![tactic(auto)]
 
 #[cfg(test)]

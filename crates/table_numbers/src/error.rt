@@ -9,9 +9,9 @@ use thiserror::Error;
 /// Why there are no numbers of tables, or no tables of numbers. A place is the index of a number in
 /// the list. `CutOff` has the place at which a number is missing. `Wrong` has the first place whose
 /// number is not the one that the tables have there, for example a wrong place of a state, or a
-/// number after the last block. `Items` has the number of lists of items. `State` has the number of a
-/// state that names what the grammar does not list, or that names it twice. `Repeated` has the number
-/// of a production that the grammar lists a second time.
+/// number after the last block. `Items` has the number of lists of items. `State` has the number of
+/// a state that names what the grammar does not list, or that names it twice. `Repeated` has the
+/// number of a production that the grammar lists a second time.
 #[derive(Debug, Drop, PartialEq, Eq, Error)]
 pub enum NumbersError {
     #[error("place 0: the numbers are not those of tables")]

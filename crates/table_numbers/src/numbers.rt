@@ -11,8 +11,8 @@ use lalrpop_base::lr1_core::state::Lr1State;
 use lalrpop_base::repr::grammar::Grammar;
 use std::alloc::Global;
 
-/// The numbers of the states of tables for a grammar, without items. The errors are `State` for a name that the
-/// grammar does not list, `Repeated`, `TooLarge` and `Memory`.
+/// The numbers of the states of tables for a grammar, without items. The errors are `State` for a
+/// name that the grammar does not list, `Repeated`, `TooLarge` and `Memory`.
 pub fn write(
     alloc: Global,
     grammar: &Grammar,

@@ -27,8 +27,8 @@ pub struct NumberedState {
 /// Tables by number. Terminals, nonterminals and productions have the numbers of their places in
 /// the lists of a grammar. The token with number `terminals` is the end of the input. A production
 /// has the number of its nonterminal and the length of its right side. A token set has the numbers
-/// of its tokens. They ascend in tables that are made of states. There are no lists of items, or there
-/// is one for each state.
+/// of its tokens. They ascend in tables that are made of states. There are no lists of items, or
+/// there is one for each state.
 #[derive(Drop)]
 pub struct NumberedTables {
     pub terminals: u32,

@@ -1,4 +1,5 @@
 // Numbers with the items of each state.
+ghost use Rattle.lalrpop_base.specs.Words.{IsWellFormed};
 
 use crate::example::{NUMBERS, TEXT, states_of};
 use grammar_text::symbols::name_of;
@@ -20,8 +21,10 @@ const WHOLE: [u32; 53] = [
     1, 0, 0, 0, 1, 1, 0, 0, 0, 1, 0, 0, 2, 0, 0, 0, 1, 0, 0, 1, 1, 1, 0, 1, 0, 1, 0,
 ];
 
-// The canonical states of a grammar with the start symbol S.
-fn canonical_states<'g>(alloc: Global, grammar: &'g Grammar) -> Result<Vec<Lr1State<'g>>, Fail> {
+// The canonical states of a well-formed grammar with the start symbol S.
+fn canonical_states<'g>(alloc: Global, grammar: &'g Grammar) -> Result<Vec<Lr1State<'g>>, Fail>
+    requires { IsWellFormed grammar.now }
+{
     let options = Options {
         method: Method::Canonical,
         ..Options::default()
@@ -42,6 +45,20 @@ fn the_example_has_its_numbers(rt: HostRuntime) -> Result<(), Fail> {
     Ok(())
 }
 
+// Whether two lists of states have the same items.
+fn have_same_items(a: &[Lr1State<'_>], b: &[Lr1State<'_>]) -> bool {
+    if a.len() != b.len() {
+        return false;
+    }
+    for (place, state) in a.iter().enumerate() {
+        match b.get(place) {
+            Some(other) if other.items == state.items => (),
+            _ => return false,
+        }
+    }
+    true
+}
+
 // Whether states are read again from their numbers with items, and have the same numbers.
 fn come_back(
     alloc: Global,
@@ -50,24 +67,32 @@ fn come_back(
 ) -> Result<bool, NumbersError> {
     let numbers = write_with_items(alloc, grammar, states)?;
     let again = read_with_items(alloc, grammar, &numbers)?;
-    if again.len() != states.len() {
-        return Ok(false);
-    }
-    for (place, state) in states.iter().enumerate() {
-        if again[place].items != state.items {
-            return Ok(false);
-        }
-    }
     let twice = write_with_items(alloc, grammar, &again)?;
-    Ok(twice.as_slice() == numbers.as_slice())
+    Ok(have_same_items(states, &again) && twice.as_slice() == numbers.as_slice())
+}
+
+// Whether the lane states of a grammar come back.
+fn lane_states_come_back(alloc: Global, grammar: &Grammar) -> Result<bool, Fail>
+    requires { IsWellFormed grammar.now }
+{
+    let states = states_of(alloc, grammar)?;
+    Ok(come_back(alloc, grammar, &states)?)
+}
+
+// Whether the canonical states of a grammar come back.
+fn canonical_states_come_back(alloc: Global, grammar: &Grammar) -> Result<bool, Fail>
+    requires { IsWellFormed grammar.now }
+{
+    let states = canonical_states(alloc, grammar)?;
+    Ok(come_back(alloc, grammar, &states)?)
 }
 
 // Whether the lane states and the canonical states of a text come back.
 fn both_come_back(alloc: Global, text: &str) -> Result<bool, Fail> {
     let grammar = grammar(alloc, text)?;
-    let lane = states_of(alloc, &grammar)?;
-    let canonical = canonical_states(alloc, &grammar)?;
-    Ok(come_back(alloc, &grammar, &lane)? && come_back(alloc, &grammar, &canonical)?)
+    let lane = lane_states_come_back(alloc, &grammar)?;
+    let canonical = canonical_states_come_back(alloc, &grammar)?;
+    Ok(lane && canonical)
 }
 
 #[test]
@@ -93,12 +118,21 @@ fn items_are_left_out(rt: HostRuntime) -> Result<(), Fail> {
     Ok(())
 }
 
-// Why numbers have no states with items, if they have none.
-fn refusal(alloc: Global, grammar: &Grammar, numbers: &[u32]) -> Option<NumbersError> {
+// Whether numbers have no states with items for the expected reason.
+fn is_refused(alloc: Global, grammar: &Grammar, numbers: &[u32], expected: &NumbersError) -> bool {
     match read_with_items(alloc, grammar, numbers) {
-        Ok(_) => None,
-        Err(error) => Some(error),
+        Ok(_) => false,
+        Err(error) => error == *expected,
     }
+}
+
+// The numbers of the example with items, with another number at a place.
+fn with_number(alloc: Global, place: usize, number: u32) -> Result<Vec<u32>, Fail> {
+    let mut numbers = Vec::from_slice(alloc, &WHOLE)?;
+    if place < numbers.len() {
+        numbers[place] = number;
+    }
+    Ok(numbers)
 }
 
 // Each row has a place, another number there, and the expected error. An item must not name a
@@ -116,14 +150,8 @@ fn changed_items_are_refused(rt: HostRuntime) -> Result<(), Fail> {
         (51, 2, NumbersError::State(2)),
     ];
     for (place, number, expected) in rows.iter() {
-        let mut numbers = Vec::from_slice(alloc, &WHOLE)?;
-        if *place < numbers.len() {
-            numbers[*place] = *number;
-        }
-        match refusal(alloc, &grammar, &numbers) {
-            Some(error) => assert!(rt; error == *expected),
-            None => return Err(Fail::from("changed items are read")),
-        }
+        let numbers = with_number(alloc, *place, *number)?;
+        assert!(rt; is_refused(alloc, &grammar, &numbers, expected));
     }
     Ok(())
 }
@@ -132,9 +160,9 @@ fn changed_items_are_refused(rt: HostRuntime) -> Result<(), Fail> {
 fn numbers_without_items_are_refused(rt: HostRuntime) -> Result<(), Fail> {
     let alloc = rt.alloc();
     let grammar = grammar(alloc, TEXT)?;
-    assert!(rt; refusal(alloc, &grammar, &NUMBERS) == Some(NumbersError::Items(0)));
+    assert!(rt; is_refused(alloc, &grammar, &NUMBERS, &NumbersError::Items(0)));
     for end in 0..WHOLE.len() {
-        assert!(rt; refusal(alloc, &grammar, &WHOLE[..end]) == Some(NumbersError::CutOff(end)));
+        assert!(rt; is_refused(alloc, &grammar, &WHOLE[..end], &NumbersError::CutOff(end)));
     }
     Ok(())
 }
@@ -173,7 +201,7 @@ impl Attempt for Read<'_> {
 }
 
 #[test]
-fn growths(rt: HostRuntime) -> Result<(), Fail> {
+fn growths_of_writing(rt: HostRuntime) -> Result<(), Fail> {
     let alloc = rt.alloc();
     let grammar = grammar(alloc, TEXT)?;
     let states = canonical_states(alloc, &grammar)?;
@@ -181,7 +209,13 @@ fn growths(rt: HostRuntime) -> Result<(), Fail> {
         grammar: &grammar,
         states: &states,
     };
-    each_growth_refused(alloc, &mut write)?;
+    each_growth_refused(alloc, &mut write)
+}
+
+#[test]
+fn growths_of_reading(rt: HostRuntime) -> Result<(), Fail> {
+    let alloc = rt.alloc();
+    let grammar = grammar(alloc, TEXT)?;
     let mut read = Read { grammar: &grammar };
     each_growth_refused(alloc, &mut read)
 }
