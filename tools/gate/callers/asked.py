@@ -91,7 +91,8 @@ class Cases:
 
     def __init__(self, folder):
         cases, grammars = read_cases(folder)
-        self.rows, tables = [], {(file, "S", "Lane"): [] for file in grammars}
+        self.rows, self.texts = [], [it.encode() for it in grammars.values()]
+        tables = {(file, "S", "Lane"): [] for file in grammars}
         for it in [case for case in cases if case["file"] in grammars]:
             self.add(it["name"], grammars[it["file"]], it["words"], it["method"], expected_of_case(it))
             if kind_of(it) in ("report", "explain") and not it["stderr"].startswith("usage: "):
@@ -109,6 +110,10 @@ class Cases:
 
     def questions(self):
         return [question for _, question, _ in self.rows]
+
+    def for_tables(self):
+        """Each grammar with the start symbol S in the place of words, by both methods."""
+        return [Question(it, b"S", by) for it in self.texts for by in (False, True)]
 
     def faults(self, answers):
         """A line for each answer that is not as expected. An answer may lack at the end."""

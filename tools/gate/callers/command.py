@@ -12,6 +12,8 @@ filled. If none is given, it is made over the libraries that `rt ci` left, and s
   the text and the words. AddressSanitizer looks on if gcc has it.
 - Some texts have the numbers of their tables that docs/FORMATS.md gives them, with rooms of each size.
   Some numbers have the verdict of the check that it gives them.
+- The tables of each stored grammar, by both methods, are faithful by the check. They are not with
+  another number before the first token set, or without the last numbers.
 - Each allocation of some questions is refused in turn, alone and with all after it. The status is 3,
   and nothing leaks. If one is refused alone, the answer may also be the right one, since a list that
   finds no room to spare grows by less.
@@ -61,6 +63,7 @@ def parts_of(stored):
         ("examples", in_c.examples),
         ("numbers", in_c.numbers),
         ("checks", in_c.checks),
+        ("own tables", functools.partial(in_c.own, stored=stored)),
         ("names", in_c.names),
     )
 

@@ -134,16 +134,19 @@ def random(library, room):
     return said, [] if all(counts) and sum(counts) == RANDOM else ["expected each of the statuses 0, 1 and 2"]
 
 
-def refused(library, room):
-    """Questions while allocations are refused."""
-    program = compiled(library, room, "refuse", f"{HERE}/refuse.c", *WRAPPED)
-    questions = refused_questions()
+def said_of(questions, room, program, **variables):
+    """What a program prints of questions. If it fails, the question that it names is shown."""
     try:
-        return ran(program, written(room, "refused", questions)).strip(), []
+        return ran(program, written(room, "some", questions), **variables).strip(), []
     except Failed as failed:
         why = str(failed)
     number = re.search(r"(?m)^.*question (\d+): ", why)
-    return "refused", [shown(questions[int(number[1])])] * bool(number) + [why]
+    return "failed", [shown(questions[int(number[1])])] * bool(number) + [why]
+
+
+def refused(library, room):
+    """Questions while allocations are refused."""
+    return said_of(refused_questions(), room, compiled(library, room, "refuse", f"{HERE}/refuse.c", *WRAPPED))
 
 
 def numbers(library, room):
@@ -163,9 +166,19 @@ def checks(library, room):
     """Checks of tables, with each smaller room."""
     flags, variables = sanitizer(room)
     program = compiled(library, room, "check", f"{HERE}/check.c", *flags)
-    rows, whole = [(("what", "S"), "2 line 1: not a grammar line\n")], WHOLE.split()
+    text, whole = NUMBERS[1][0][0], WHOLE.split()
+    rows = [(("what", "S"), "2 line 1: not a grammar line\n")]
     for place, number, expected in CHECKS:
         numbers = whole[:number] if place is None else [*whole[:place], str(number), *whole[place + 1 :]]
-        rows.append((("S = A\nA = \"x\"", "S", *numbers), expected))
-    rows.append((("S = A\nA = \"x\"", "T", *whole), "2 the start symbol is no nonterminal\n"))
+        rows.append(((text, "S", *numbers), expected))
+    rows.append(((text, "T", *whole), "2 the start symbol is no nonterminal\n"))
     return f"{len(rows)} calls", unexpected(program, rows, variables)
+
+
+def own(library, room, stored):
+    """Checks of the library's own tables, of these with a changed number, and of these without the last
+    numbers."""
+    flags, variables = sanitizer(room)
+    program = compiled(library, room, "own", f"{HERE}/own.c", *flags)
+    said, faults = said_of(stored.for_tables(), room, program, **variables)
+    return said, faults or ["expected tables"] * (" 0 tables" in said)

@@ -5,6 +5,7 @@ import shutil
 import subprocess
 import tempfile
 import unittest
+import unittest.mock
 
 from gate.callers import in_c, parts
 from gate.callers.asked import Answer, Cases, Question, answers_in, file_of, random_question
@@ -33,21 +34,27 @@ uint8_t lr1_tables(const uint8_t *text, size_t text_length, const uint8_t *start
         out[at] = FAULT == 13 ? (uint32_t)room : 7;
     if (FAULT == 14 && room > *length)
         out[*length] = 7;
-    return LR1_REFUSED;
+    return FAULT > 18 ? LR1_OK : LR1_REFUSED;
 }
 uint8_t lr1_check(const uint8_t *text, size_t text_length, const uint8_t *start, size_t start_length,
                   const uint32_t *numbers, size_t count, uint8_t *out, size_t room, size_t *length)
 {
     void *block = malloc(10);
-    (void)text, (void)text_length, (void)start, (void)start_length;
+    bool is_own = FAULT == 22 || count == text_length + start_length;
+    (void)text, (void)start;
     if (block == NULL && FAULT != 16)
         return LR1_NO_MEMORY;
     free(block);
-    *length = count;
-    for (size_t at = 0; at < count && at < room; at++)
-        out[at] = FAULT == 17 ? (uint8_t)room : (uint8_t)('0' + numbers[at] % 10);
-    if (FAULT == 18 && room > count)
-        out[count] = '7';
+    for (size_t at = 0; at < count; at++)
+        is_own = is_own && numbers[at] == 7;
+    *length = 0;
+    if (FAULT == 21 || (is_own && FAULT > 19))
+        return LR1_OK;
+    *length = count + (count == 0);
+    for (size_t at = 0; at < *length && at < room; at++)
+        out[at] = FAULT == 17 ? (uint8_t)room : (uint8_t)('0' + (count == 0 ? 0 : numbers[at] % 10));
+    if (FAULT == 18 && room > *length)
+        out[*length] = '7';
     return LR1_REFUSED;
 }
 uint8_t lr1_ask(const uint8_t *text, size_t text_length, const uint8_t *words, size_t words_length,
@@ -250,3 +257,22 @@ class Checks(unittest.TestCase):
             with self.subTest(fault), tempfile.TemporaryDirectory() as room:
                 with self.assertRaisesRegex(parts.Failed, text):
                     in_c.checks(library(room, fault), room)
+
+
+class OwnTables(unittest.TestCase):
+    def said(self, fault):
+        with tempfile.TemporaryDirectory() as room:
+            return in_c.own(library(room, fault), room, unittest.mock.Mock(for_tables=lambda: QUESTIONS))
+
+    def test_right_library(self):
+        lengths = [len(it.text) + len(it.words) for it in QUESTIONS]
+        changed = sum(2 * (7 if it > 8 else it) for it in lengths)
+        self.assertEqual(self.said(20), (f"{len(lengths)} questions, {len(lengths)} tables, {changed} changed numbers", []))
+        self.assertEqual(self.said(0), (f"{len(lengths)} questions, 0 tables, 0 changed numbers", ["expected tables"]))
+
+    def test_faults(self):
+        for fault, text in ((19, "its own tables are refused"), (21, "changed number"), (22, "cut off")):
+            with self.subTest(fault):
+                said, faults = self.said(fault)
+                self.assertEqual((said, faults[0]), ("failed", in_c.shown(QUESTIONS[0])))
+                self.assertIn(text, faults[1])
