@@ -17,7 +17,7 @@ use Rattle.lalrpop_states.specs.declared.lr1_core.state.State.{State}
 use Rattle.lalrpop_tables.specs.Words.{AreTablesOf}
 use Rattle.program_answers.specs.Inlined.{IsInlining}
 use Rattle.program_answers.specs.Texts.{most_copies}
-use Rattle.table_numbers.specs.Words.{AreNumbersOf, AreWholeNumbersOf, Lists, lists_of}
+use Rattle.table_numbers.specs.Words.{AreNumbersOf, AreWholeNumbersOf, lists_of}
 use Rattle.lr1_calls.specs.Copied.{IsCopied}
 use Rattle.lr1_calls.specs.declared.tables.Outcome.{Outcome}
 use Rattle.lr1_calls.specs.declared.tables.Outcome.TheVariants.{Conflicts, Fault, Memory, Numbers}

@@ -1,7 +1,8 @@
 //! A call that checks tables, which a caller gives as numbers.
-ghost use Rattle.std.specs.Prelude.{ℕ, List, Some, IfOk, IsFalse, IsTrue, codes};
+ghost use Rattle.std.specs.Prelude.{◌≡◌, ◌++◌, ℕ, List, Some, IfOk, IsFalse, IsTrue, codes, string_bytes};
 ghost use Rattle.lalrpop_base.specs.Words.{AreFaithful, IsWellFormed, contents, productions};
 ghost use Rattle.program_answers.specs.Answers.{IsAnswerTo};
+ghost use Rattle.program_answers.specs.Texts.{line};
 ghost use Rattle.table_numbers.specs.Words.{AreWholeNumbersOf, lists_of};
 ghost use Rattle.lr1_calls.specs.Checked.{FailCheck, IsChecked, IsMessage, IsRefusal, IsVerdict, IsVerdictFor};
 
@@ -45,7 +46,7 @@ fn answer_to_check(alloc: Global, text: &[u8], start: &[u8], numbers: &[u32]) ->
     ensures { IsAnswerTo (IsVerdict start.now numbers.now) (codes "grammar") (Some (Some text.now))
         result }
 {
-    let check = Check { start, numbers };
+    let check = NumbersCheck { start, numbers };
     match answer_to(alloc, &check, "grammar", Method::Lane, Some(text)) {
         Ok(answer) => answer,
         Err(_) => Answer::Memory,
@@ -54,12 +55,12 @@ fn answer_to_check(alloc: Global, text: &[u8], start: &[u8], numbers: &[u32]) ->
 
 // A check of numbers for a start symbol.
 #[derive(Drop)]
-struct Check<'a> {
+struct NumbersCheck<'a> {
     start: &'a [u8],
     numbers: &'a [u32],
 }
 
-impl Ask for Check<'_> {
+impl Ask for NumbersCheck<'_> {
     ghost IsShown = { λ check _ g s. IsVerdict check.start.now check.numbers.now g s };
 
     fn shown(
@@ -82,17 +83,22 @@ fn verdict(
     requires { IsWellFormed grammar.now }
     ensures { IfOk result (IsVerdict start.now numbers.now grammar.now) }
 {
-    match from_utf8(start) {
-        Ok(start) => verdict_for(alloc, grammar, name_of(alloc, start)?, numbers),
-        Err(_) => message(alloc, 2, "the start symbol is not UTF-8\n"),
-    }
+    let Ok(text) = from_utf8(start) else {
+        let shown = message(alloc, 2, "the start symbol is not UTF-8\n")?;
+        return Ok(shown);
+    };
+    let symbol = name_of(alloc, text)?;
+    let shown = verdict_for(alloc, grammar, symbol, numbers)?;
+    Ok(shown)
 }
 
 // A status, and a message alone.
 fn message(alloc: Global, status: u8, message: &str) -> Result<Shown, OutOfMemory>
     ensures { IfOk result (IsMessage status message.now) }
 {
-    Shown::of(alloc, status, String::new(alloc), String::from_str(alloc, message)?)
+    let remark = String::from_str(alloc, message)?;
+    let shown = Shown::of(alloc, status, String::new(alloc), remark)?;
+    Ok(shown)
 }
 
 // The verdict on numbers for a grammar and a start symbol.
@@ -106,12 +112,16 @@ fn verdict_for(
     ensures { IfOk result (IsVerdictFor start numbers.now grammar.now) }
 {
     if grammar.nonterminals.get(&start).is_none() {
-        return message(alloc, 2, "the start symbol is no nonterminal\n");
+        let shown = message(alloc, 2, "the start symbol is no nonterminal\n")?;
+        return Ok(shown);
     }
     match read_with_items(alloc, grammar, numbers) {
         Ok(states) => verdict_on(alloc, grammar, start, &states),
         Err(NumbersError::Memory) => Err(OutOfMemory),
-        Err(error) => why_refused(alloc, &error),
+        Err(error) => {
+            let shown = why_refused(alloc, &error)?;
+            Ok(shown)
+        }
     }
 }
 
@@ -119,12 +129,21 @@ fn verdict_for(
 fn why_refused(alloc: Global, error: &NumbersError) -> Result<Shown, OutOfMemory>
     ensures { IfOk result IsRefusal }
 {
-    let text = format!(in alloc; "the tables: {error}\n")?;
-    Shown::of(alloc, 2, String::new(alloc), text)
+    let why = format!(in alloc; "{error}")?;
+    let text = refusal_text(alloc, why.as_str())?;
+    let shown = message(alloc, 2, text.as_str())?;
+    Ok(shown)
+}
+
+// The message that numbers are refused.
+fn refusal_text(alloc: Global, why: &str) -> Result<String, OutOfMemory>
+    ensures { IfOk result
+        (λ text. string_bytes text ≡ line (codes "the tables: " ++ why.now)) }
+{
+    Ok(format!(in alloc; "the tables: {why}\n")?)
 }
 
 // The verdict on the states of numbers.
-#[tactic(auto, using(table_numbers::proofs::ItemLemmas::whole_numbers))]
 fn verdict_on<'grammar>(
     alloc: Global,
     grammar: &'grammar Grammar,
@@ -136,9 +155,11 @@ fn verdict_on<'grammar>(
         IfOk result (IsVerdictFor start numbers grammar.now) }
 {
     if are_tables(alloc, grammar, start, states)? {
-        return message(alloc, 0, "");
+        let shown = message(alloc, 0, "")?;
+        return Ok(shown);
     }
-    message(alloc, 1, "the tables are not faithful\n")
+    let shown = message(alloc, 1, "the tables are not faithful\n")?;
+    Ok(shown)
 }
 
 // Whether states pass the check of tables.
@@ -159,5 +180,6 @@ fn are_tables<'grammar>(
     if states.is_empty() {
         return Ok(false);
     }
-    check_tables(alloc, grammar, start, states)
+    let passed = check_tables(alloc, grammar, start, states)?;
+    Ok(passed)
 }

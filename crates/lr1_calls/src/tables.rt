@@ -88,13 +88,7 @@ fn fill(numbers: &[u32], out: &mut [u32])
 }
 
 // The outcome for bytes.
-fn outcome_of(
-    alloc: Global,
-    text: &[u8],
-    start: &[u8],
-    method: Method,
-    items: bool,
-) -> Outcome
+fn outcome_of(alloc: Global, text: &[u8], start: &[u8], method: Method, items: bool) -> Outcome
     ensures { IsOutcome method items text.now start.now result }
 {
     let Ok(text) = from_utf8(text) else {

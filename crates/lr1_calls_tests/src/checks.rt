@@ -68,7 +68,15 @@ fn expect(
 fn numbers_of(alloc: Global, text: &str, canonical: bool) -> Result<Vec<u32>, Fail> {
     let mut out = Vec::from_elem(alloc, 0, 1000)?;
     let mut length = 0;
-    let status = tables(alloc, text.as_bytes(), b"S", canonical, true, &mut out, &mut length);
+    let status = tables(
+        alloc,
+        text.as_bytes(),
+        b"S",
+        canonical,
+        true,
+        &mut out,
+        &mut length,
+    );
     if status == 0 && length <= 1000 {
         out.truncate(length);
         return Ok(out);
@@ -113,9 +121,19 @@ fn changed_tables(rt: HostRuntime) -> Result<(), Fail> {
     let rows: [(usize, u32, u8, &str); 6] = [
         (40, 1, 1, "the tables are not faithful\n"),
         (23, 1, 1, "the tables are not faithful\n"),
-        (8, 20, 2, "the tables: place 8: the number is not the one of the tables\n"),
+        (
+            8,
+            20,
+            2,
+            "the tables: place 8: the number is not the one of the tables\n",
+        ),
         (1, 2, 2, "the tables: place 1: version 2 is unknown\n"),
-        (3, 2, 2, "the tables: place 3: the grammar does not have 2 terminals\n"),
+        (
+            3,
+            2,
+            2,
+            "the tables: place 3: the grammar does not have 2 terminals\n",
+        ),
         (
             44,
             1,
@@ -138,18 +156,49 @@ fn faults(rt: HostRuntime) -> Result<(), Fail> {
         ("what", "S", 53, "line 1: not a grammar line\n"),
         ("S = A\nA = A\ninline A", "S", 53, "cyclic inline of A\n"),
         (EXAMPLE, "T", 53, "the start symbol is no nonterminal\n"),
-        (EXAMPLE, "S", 52, "the tables: place 52: the numbers end before the tables\n"),
-        (EXAMPLE, "S", 0, "the tables: place 0: the numbers end before the tables\n"),
+        (
+            EXAMPLE,
+            "S",
+            52,
+            "the tables: place 52: the numbers end before the tables\n",
+        ),
+        (
+            EXAMPLE,
+            "S",
+            0,
+            "the tables: place 0: the numbers end before the tables\n",
+        ),
     ];
     for (text, start, count, message) in rows.iter() {
         let numbers = &WHOLE[..(*count).min(53)];
-        expect(&rt, alloc, text.as_bytes(), start.as_bytes(), numbers, (2, *message))?;
+        expect(
+            &rt,
+            alloc,
+            text.as_bytes(),
+            start.as_bytes(),
+            numbers,
+            (2, *message),
+        )?;
     }
     let no_text: &[u8] = &[83, 32, 61, 32, 34, 255, 34];
-    expect(&rt, alloc, no_text, b"S", &WHOLE, (2, "cannot read grammar\n"))?;
+    expect(
+        &rt,
+        alloc,
+        no_text,
+        b"S",
+        &WHOLE,
+        (2, "cannot read grammar\n"),
+    )?;
     let no_name: &[u8] = &[83, 255];
     let message = "the start symbol is not UTF-8\n";
-    expect(&rt, alloc, EXAMPLE.as_bytes(), no_name, &WHOLE, (2, message))
+    expect(
+        &rt,
+        alloc,
+        EXAMPLE.as_bytes(),
+        no_name,
+        &WHOLE,
+        (2, message),
+    )
 }
 
 // A check that can be made again.

@@ -4,18 +4,18 @@ use Rattle.std.proofs.Math.Path.{fun_ext}
 use Rattle.std.specs.List.{cons_option, filter_map}
 use Rattle.std.proofs.lemmas.List.{map-append, take_more}
 use Rattle.std.proofs.lemmas.Option.{slice_get_past}
-use Rattle.lalrpop_base.specs.Words.{AreFaithful, Bits, Contents, Dotted, bits_of, contents, contents_at, dotted_of, holds_token}
+use Rattle.lalrpop_base.specs.Words.{AreFaithful, Bits, Dotted, bits_of, contents, contents_at, dotted_of, holds_token}
 use Rattle.lalrpop_collections.proofs.theory.lists.Places.{push_cases, slice_get_at}
 use Rattle.lalrpop_grammar.specs.declared.repr.NonterminalString.{NonterminalString}
 use Rattle.lalrpop_grammar.specs.declared.repr.Production.{Production}
 use Rattle.lalrpop_states.specs.declared.lr1_core.state.State.{State}
-use Rattle.table_numbers.specs.Items.{AreFaithfulWithItems, AreItemsOf, AreListsOf, AreWholeNumbersOf, EachListIsOf, HaveItemsOf, dotted_if, item_at, item_parts, list_at, list_if, numbered_dotted, whole_contents}
+use Rattle.table_numbers.specs.Items.{AreFaithfulWithItems, AreItemsOf, AreWholeNumbersOf, EachListIsOf, HaveItemsOf, dotted_if, item_at, item_parts, list_at, list_if, numbered_dotted, whole_contents}
 use Rattle.table_numbers.specs.Lists.{Lists}
 use Rattle.table_numbers.specs.Numbered.{Keeps}
 use Rattle.table_numbers.specs.Numbers.{AreTablesOf, with_items}
 use Rattle.table_numbers.specs.declared.tables.NumberedItem.{NumberedItem}
 use Rattle.table_numbers.specs.declared.tables.NumberedTables.{NumberedTables}
-use Rattle.table_numbers.proofs.ContentsLemmas.{some_not_none, there_not}
+use Rattle.table_numbers.proofs.ContentsLemmas.{there_not}
 
 -- items with equal parts are equal
 pub same_parts : (a b : Option Production) (d e : ℕ) (s t : Option Bits) → a ≡ b → d ≡ e → s ≡ t → ◌≡◌ {A = (Option Production × ℕ) × Option Bits} ((a, d), s) ((b, e), t)

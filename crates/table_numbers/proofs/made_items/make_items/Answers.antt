@@ -1,4 +1,4 @@
-use Rattle.std.proofs.Common.{◌≡◌, ◌+◌, ◌++◌, ℕ, List, map, drop, get_or, Option, refl, sym, ◌∙◌, ap}
+use Rattle.std.proofs.Common.{◌+◌, ◌++◌, ℕ, List, map, drop, get_or, Option, refl, sym, ◌∙◌, ap}
 use Rattle.lalrpop_base.specs.Words.{Bits, Dotted}
 use Rattle.lalrpop_grammar.specs.declared.repr.Production.{Production}
 use Rattle.table_numbers.specs.Items.{item_at, item_parts}

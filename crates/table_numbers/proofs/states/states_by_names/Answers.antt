@@ -1,4 +1,4 @@
-use Rattle.std.proofs.Common.{◌≡◌, ℕ, List, length, map, slice_get, Option, Some, sym, ◌∙◌, ap, subst}
+use Rattle.std.proofs.Common.{ℕ, List, map, sym, ◌∙◌, ap, subst}
 use Rattle.std.specs.Borrow.{Bor}
 use Rattle.lalrpop_base.specs.Words.{Bits, bits_of}
 use Rattle.lalrpop_grammar.specs.declared.repr.Production.{Production}
