@@ -23,12 +23,12 @@ extern "C" {
 
 /* What a call returns. */
 enum lr1_status {
-    /* There are tables, a parse tree, or nothing to report, or tables are faithful. */
+    /* There are tables, a parse, an action or a goto, or nothing to report, or tables are faithful. */
     LR1_OK = 0,
-    /* There are conflicts or warnings, a parse was refused or reached its limit, or tables do not pass
-     * the check. */
+    /* There are conflicts or warnings, there is no action or goto, a parse was refused or reached its
+     * limit, or tables do not pass the check. */
     LR1_REFUSED = 1,
-    /* The text, the words, the start symbol or the numbers have a fault. */
+    /* The text, the words or the start symbol have a fault, or the numbers are not those of tables. */
     LR1_FAULT = 2,
     /* malloc or realloc returned a null pointer. */
     LR1_NO_MEMORY = 3
@@ -107,6 +107,97 @@ uint8_t lr1_tables(const uint8_t *text, size_t text_length, const uint8_t *start
  */
 uint8_t lr1_check(const uint8_t *text, size_t text_length, const uint8_t *start, size_t start_length,
                   const uint32_t *numbers, size_t count, uint8_t *out, size_t room, size_t *length);
+
+/* The first number of a pair of lr1_action and lr1_parse. */
+enum lr1_step {
+    /* A shift. */
+    LR1_SHIFT = 0,
+    /* A reduction. */
+    LR1_REDUCE = 1,
+    /* The parse was refused. The next number is the state on top of the stack. */
+    LR1_STOP = 2,
+    /* The parse reached its limit. The next number is the state on top of the stack. */
+    LR1_LIMIT = 3
+};
+
+/*
+ * Writes what a state does on a token.
+ *
+ * tables     the numbers that lr1_tables wrote, and how many there are
+ * state      the number of a state; a parse begins in state 0
+ * token      the number of a terminal, or how many terminals there are for the end of the input
+ * out, room  where the numbers go, and how many there is room for; there are 4 at most
+ * length     gets how many numbers there are
+ *
+ * The numbers are LR1_SHIFT and the next state, or LR1_REDUCE, the production, the nonterminal on its
+ * left side, and the length of its right side. The call takes no memory. Its time grows with the
+ * numbers of the one state.
+ *
+ * Returns LR1_OK for an action, LR1_REFUSED if there is none, and LR1_FAULT if the numbers are not
+ * those of tables that have the state and the token. *length is 0 unless it is LR1_OK.
+ *
+ * The call looks only at the numbers that it needs. So wrong numbers may have an action. No numbers
+ * make it read or write elsewhere. The same is asked of the caller as for lr1_ask, and `tables` has
+ * less than 2^61 numbers.
+ */
+uint8_t lr1_action(const uint32_t *tables, size_t tables_length, uint32_t state, uint32_t token,
+                   uint32_t *out, size_t room, size_t *length);
+
+/*
+ * Writes the state to which a state leads on a nonterminal.
+ *
+ * nonterminal  the number of a nonterminal
+ * out, room    where the number of the state goes; there is 1 at most
+ *
+ * Returns LR1_OK for a goto, LR1_REFUSED if there is none, and LR1_FAULT if the numbers are not those
+ * of tables that have the state and the nonterminal. The rest is as for lr1_action.
+ */
+uint8_t lr1_goto(const uint32_t *tables, size_t tables_length, uint32_t state, uint32_t nonterminal,
+                 uint32_t *out, size_t room, size_t *length);
+
+/*
+ * Parses tokens by tables as numbers.
+ *
+ * tables     the numbers that lr1_tables wrote, and how many there are
+ * tokens     the numbers of the terminals of the input, and how many there are
+ * limit      how many steps the parse may make: each shift and each reduction is one
+ * out, room  where the numbers of the answer go, and how many there is room for
+ * length     gets how many numbers the answer has
+ * read       gets how many tokens were shifted
+ *
+ * The answer has two numbers for each step: LR1_SHIFT and the token, or LR1_REDUCE and the
+ * production. The reductions are those of a rightmost derivation, backwards. If the parse was refused
+ * or reached its limit, two numbers more say why, as enum lr1_step has them. The refused token is
+ * tokens[*read], or the end of the input if *read is tokens_length.
+ *
+ * If the answer has at most `room` numbers, all of it is in `out`. If not, its first `room` numbers
+ * are, and a call with room for *length numbers gets all of it. The rest of `out` keeps its numbers.
+ *
+ * Returns LR1_OK for a parse, LR1_REFUSED for a refusal and for the limit, LR1_FAULT if a token is no
+ * terminal or the numbers are not those of tables, and LR1_NO_MEMORY. For the last two *length and
+ * *read are 0. The same is asked of the caller as for lr1_action.
+ */
+uint8_t lr1_parse(const uint32_t *tables, size_t tables_length, const uint32_t *tokens, size_t tokens_length,
+                  size_t limit, uint32_t *out, size_t room, size_t *length, size_t *read);
+
+/*
+ * Writes the tokens that may come after tokens, by tables as numbers. After a refusal by lr1_parse,
+ * the tokens before the refused one have the tokens that were expected.
+ *
+ * tokens     the numbers of the terminals that were read, and how many there are
+ * limit      how many steps there may be for these tokens and each token that is tried after them
+ * out, room  where the tokens go, and how many there is room for
+ * length     gets how many tokens may come
+ *
+ * The tokens ascend. The end of the input is the number of terminals. The call tries each terminal. So
+ * its time grows with the number of terminals, which is tables[3].
+ *
+ * Returns LR1_OK for the tokens, LR1_REFUSED if the given ones are refused or there are more steps
+ * than the limit allows, LR1_FAULT and LR1_NO_MEMORY. *length is 0 unless it is LR1_OK. The rest is as
+ * for lr1_parse.
+ */
+uint8_t lr1_expected(const uint32_t *tables, size_t tables_length, const uint32_t *tokens,
+                     size_t tokens_length, size_t limit, uint32_t *out, size_t room, size_t *length);
 
 #ifdef __cplusplus
 }

@@ -1,15 +1,21 @@
-//! What the programs `lrtab` and `lrshow` print of a grammar, its tables as numbers, and a check of
-//! tables, for callers in C.
+//! What the programs `lrtab` and `lrshow` print of a grammar, its tables as numbers, a check of
+//! tables, and parses by numbers, for callers in C.
 #![tactic(auto)]
 
 ghost use Rattle.std.specs.Prelude.{◌≡◌};
 ghost use Rattle.lr1_calls.specs.Calls.{IsAnswered, method_for};
 ghost use Rattle.lr1_calls.specs.Checked.{IsChecked};
 ghost use Rattle.lr1_calls.specs.Tables.{AreGiven};
+ghost use Rattle.parse_calls.specs.Answers.{IsGiven, IsParsed, action_answer, goto_answer};
+ghost use Rattle.parse_calls.specs.Expected.{IsExpected};
 
 use lr1_calls::ask::ask;
 use lr1_calls::check::check;
 use lr1_calls::tables::tables;
+use parse_calls::action::action;
+use parse_calls::expected::expected;
+use parse_calls::goto::goto;
+use parse_calls::parse::parse;
 use std::alloc::Global;
 
 /// The version of the interface. It grows if the meaning of a call changes.
@@ -74,4 +80,76 @@ pub extern "C" fn lr1_check(
     ensures { IsChecked text.now start.now numbers.now result out.old out.new length.new }
 {
     check(alloc, text, start, numbers, out, length)
+}
+
+/// The action of a state on a token, by tables as numbers. As many of its numbers as fit go to
+/// `out`, and how many there are to `length`. A shift has the number 0 and its state. A reduction has
+/// 1, its production, the nonterminal of that, and the length of its right side. The result is the
+/// status: 0 for an action, 1 if there is none, and 2 for a fault. Only an action has numbers.
+#[unsafe(no_mangle)]
+pub extern "C" fn lr1_action(
+    tables: &[u32],
+    state: u32,
+    token: u32,
+    out: &mut [u32],
+    length: &mut usize,
+) -> u8
+    ensures { IsGiven (action_answer tables.now state token) result out.old out.new length.new }
+{
+    action(tables, state, token, out, length)
+}
+
+/// The goto of a state on a nonterminal, by tables as numbers. The number of the state goes to
+/// `out`, if there is room, and `length` becomes 1. The result is the status: 0 for a goto, 1 if
+/// there is none, and 2 for a fault. Only a goto has a number.
+#[unsafe(no_mangle)]
+pub extern "C" fn lr1_goto(
+    tables: &[u32],
+    state: u32,
+    nonterminal: u32,
+    out: &mut [u32],
+    length: &mut usize,
+) -> u8
+    ensures { IsGiven (goto_answer tables.now state nonterminal) result out.old out.new length.new }
+{
+    goto(tables, state, nonterminal, out, length)
+}
+
+/// Parses tokens by tables as numbers, in at most `limit` steps. As many of the numbers of the
+/// answer as fit go to `out`, and how many there are to `length`. They are pairs: 0 and the token of
+/// a shift, 1 and the production of a reduction, and at last 2 or 3 and the state on top, if the
+/// next token was refused or the limit ended the run. `read` becomes how many tokens were shifted.
+/// The result is the status: 0 for a parse, 1 for a refusal or the limit, 2 for a fault, and 3 if an
+/// allocation fails.
+#[unsafe(no_mangle)]
+pub extern "C" fn lr1_parse(
+    alloc: Global,
+    tables: &[u32],
+    tokens: &[u32],
+    limit: usize,
+    out: &mut [u32],
+    length: &mut usize,
+    read: &mut usize,
+) -> u8
+    ensures { IsParsed tables.now tokens.now limit result out.old out.new length.new read.new }
+{
+    parse(alloc, tables, tokens, limit, out, length, read)
+}
+
+/// The tokens that may come after tokens, by tables as numbers. As many of them as fit go to `out`,
+/// ascending, and how many there are to `length`. The end of the input is the number of terminals.
+/// The result is the status: 0 for the tokens, 1 if the given tokens are refused or a step would
+/// pass the limit, 2 for a fault, and 3 if an allocation fails.
+#[unsafe(no_mangle)]
+pub extern "C" fn lr1_expected(
+    alloc: Global,
+    tables: &[u32],
+    tokens: &[u32],
+    limit: usize,
+    out: &mut [u32],
+    length: &mut usize,
+) -> u8
+    ensures { IsExpected tables.now tokens.now limit result out.old out.new length.new }
+{
+    expected(alloc, tables, tokens, limit, out, length)
 }
