@@ -21,12 +21,14 @@
 //! - [`Grammar::check`] finds what is wrong or doubtful with a grammar.
 //! - [`ask`] asks any question of the library, as its programs are asked.
 //! - [`table_numbers`] returns the tables as one list of numbers, and [`check`] checks such a list.
+//! - [`numbers`] has the actions, gotos and parses by such a list.
 #![deny(missing_docs)]
 
 mod ask;
 mod error;
 mod grammar;
 mod json;
+pub mod numbers;
 mod tables;
 mod tree;
 

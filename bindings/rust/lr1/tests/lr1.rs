@@ -1,5 +1,6 @@
 //! Tests of the crate.
 
+use lr1::numbers::{self, End, Step};
 use lr1::Symbol::{Literal, Nonterminal};
 use lr1::{ask, check, table_numbers, table_numbers_with_items, version};
 use lr1::{Action, Error, Grammar, Method, ParseOutcome, Status};
@@ -240,6 +241,59 @@ fn numbers() -> Result<(), Error> {
         .collect();
     text.push_str("A9000 =");
     assert!(table_numbers(text, "A0", Method::Lane)?.1.len() > 1 << 16);
+    Ok(())
+}
+
+#[test]
+fn calls_by_numbers() -> Result<(), Error> {
+    // The terminals "+" and "n" are 0 and 1, and the end is 2. The nonterminals E and S are 0 and 1.
+    // The productions E = E "+" "n", E = "n" and S = E are 0, 1 and 2.
+    let tables = table_numbers(SUMS, "S", Method::Lane)?.1;
+    let reduce = numbers::Action::Reduce {
+        production: 1,
+        nonterminal: 0,
+        length: 1,
+    };
+    let Some(numbers::Action::Shift(after)) = numbers::action(&tables, 0, 1)? else {
+        panic!()
+    };
+    assert_eq!(numbers::action(&tables, after, 0)?, Some(reduce));
+    assert_eq!(numbers::action(&tables, 0, 0)?, None);
+    assert!(numbers::goto(&tables, 0, 0)?.is_some());
+    assert_eq!(numbers::goto(&tables, 0, 1)?, None);
+    let parsed = numbers::parse(&tables, &[1, 0, 1], 9)?;
+    let steps = [
+        Step::Shift(1),
+        Step::Reduce(1),
+        Step::Shift(0),
+        Step::Shift(1),
+        Step::Reduce(0),
+        Step::Reduce(2),
+    ];
+    assert_eq!((&parsed.steps[..], parsed.end), (&steps[..], End::Parsed));
+    let refused = numbers::parse(&tables, &[1, 1], 9)?;
+    assert!(matches!(refused.end, End::Refused(_)));
+    assert_eq!(refused.read, 1);
+    assert!(matches!(
+        numbers::parse(&tables, &[1, 0, 1], 5)?.end,
+        End::Limit(_)
+    ));
+    assert_eq!(numbers::expected(&tables, &[], 9)?, Some(vec![1]));
+    assert_eq!(numbers::expected(&tables, &[1], 9)?, Some(vec![0, 2]));
+    assert_eq!(numbers::expected(&tables, &[1, 1], 9)?, None);
+    Ok(())
+}
+
+#[test]
+fn faults_of_numbers() -> Result<(), Error> {
+    let tables = table_numbers(SUMS, "S", Method::Lane)?.1;
+    let is_fault = |it: Result<bool, Error>| matches!(it, Err(Error::Fault(_)));
+    assert!(is_fault(numbers::action(&tables, 0, 3).map(|it| it.is_some())));
+    assert!(is_fault(numbers::action(&tables, 99, 0).map(|it| it.is_some())));
+    assert!(is_fault(numbers::goto(&tables, 0, 2).map(|it| it.is_some())));
+    assert!(is_fault(numbers::parse(&tables, &[2], 9).map(|_| true)));
+    assert!(is_fault(numbers::parse(&[], &[], 9).map(|_| true)));
+    assert!(is_fault(numbers::expected(&tables[..8], &[], 9).map(|_| true)));
     Ok(())
 }
 
