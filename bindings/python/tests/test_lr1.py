@@ -170,6 +170,31 @@ class Calls(unittest.TestCase):
         self.assertEqual((status, numbers[5]), (0, 9001))
         self.assertGreater(len(numbers), 1 << 16)
 
+    def test_calls_by_numbers(self):
+        # The terminals "+" and "n" are 0 and 1, and the end is 2. The nonterminals E and S are 0 and 1.
+        # The productions E = E "+" "n", E = "n" and S = E are 0, 1 and 2.
+        tables = lr1.NumberedTables(lr1.table_numbers(SUMS, "S")[1])
+        self.assertEqual(tables.action(tables.action(0, 1), 0), lr1.Reduction(1, 0, 1))
+        self.assertIsNone(tables.action(0, 0))
+        self.assertIsNotNone(tables.goto(0, 0))
+        self.assertIsNone(tables.goto(0, 1))
+        steps = [("shift", 1), ("reduce", 1), ("shift", 0), ("shift", 1), ("reduce", 0), ("reduce", 2)]
+        self.assertEqual(tables.parse([1, 0, 1]), ("parsed", steps, 3, None))
+        self.assertEqual(tables.parse([1, 1])[0:3:2], ("refused", 1))
+        self.assertEqual(tables.parse([1, 0, 1], 5).end, "limit")
+        self.assertEqual((tables.expected([]), tables.expected([1]), tables.expected([1, 1])), ([1], [0, 2], None))
+
+    def test_faults_of_numbers(self):
+        numbers = lr1.table_numbers(SUMS, "S")[1]
+        tables = lr1.NumberedTables(numbers)
+        for call in (
+            lambda: tables.action(0, 3), lambda: tables.action(99, 0), lambda: tables.goto(0, 2), lambda: tables.parse([2]),
+            lambda: lr1.NumberedTables([]).parse([]), lambda: lr1.NumberedTables(numbers[:8]).expected([]),
+            lambda: tables.action(-1, 0), lambda: tables.parse([1 << 32]),
+        ):
+            with self.assertRaises(ValueError):
+                call()
+
     def test_threads(self):
         tables = Grammar(SUMS).tables("S")
         with concurrent.futures.ThreadPoolExecutor(8) as pool:
@@ -186,9 +211,10 @@ class Trees(unittest.TestCase):
 def load_tests(loader, tests, _pattern):
     """The examples of the docstrings and of README.md, too."""
     import lr1._library
+    import lr1.numbers
     import lr1.trees
 
-    for module in (lr1, lr1._library, lr1.trees):
+    for module in (lr1, lr1._library, lr1.numbers, lr1.trees):
         tests.addTests(doctest.DocTestSuite(module))
     tests.addTests(doctest.DocFileSuite(str(README), module_relative=False))
     return tests

@@ -15,6 +15,7 @@
 from ._library import Answer, ask, check, table_numbers, version
 from .errors import ConflictsError, GrammarError, LimitError, Lr1Error, ParseError, RefusedError
 from .grammar import Finding, Grammar, Literal, Symbol
+from .numbers import NumberedParse, NumberedTables, Reduction
 from .tables import Tables
 from .trees import Child, Node
 
@@ -29,7 +30,10 @@ __all__ = [
     "Literal",
     "Lr1Error",
     "Node",
+    "NumberedParse",
+    "NumberedTables",
     "ParseError",
+    "Reduction",
     "RefusedError",
     "Symbol",
     "Tables",

@@ -5,7 +5,7 @@ from __future__ import annotations
 import ctypes
 import os
 import pathlib
-from typing import Iterable, List, NamedTuple, Tuple, Union
+from typing import Iterable, List, NamedTuple, Sequence, Tuple, Union
 
 # The version of the library's calls that this package uses.
 _VERSION = 1
@@ -40,13 +40,21 @@ def _loaded(path: str) -> ctypes.CDLL:
         library.lr1_ask.restype = ctypes.c_uint8
         library.lr1_tables.restype = ctypes.c_uint8
         library.lr1_check.restype = ctypes.c_uint8
+        library.lr1_action.restype = library.lr1_goto.restype = ctypes.c_uint8
+        library.lr1_parse.restype = library.lr1_expected.restype = ctypes.c_uint8
     except (OSError, AttributeError) as why:
         raise ImportError(f"{path} is not the library lr1: {why}") from why
-    given = [ctypes.c_char_p, ctypes.c_size_t] * 2
-    room = [ctypes.c_void_p, ctypes.c_size_t, ctypes.POINTER(ctypes.c_size_t)]
-    library.lr1_ask.argtypes = [*given, ctypes.c_bool, *room]
-    library.lr1_tables.argtypes = [*given, ctypes.c_bool, ctypes.c_bool, *room]
-    library.lr1_check.argtypes = [*given, ctypes.c_void_p, ctypes.c_size_t, *room]
+    text = [ctypes.c_char_p, ctypes.c_size_t] * 2
+    numbers = [ctypes.c_void_p, ctypes.c_size_t]
+    count = ctypes.POINTER(ctypes.c_size_t)
+    room = [*numbers, count]
+    library.lr1_ask.argtypes = [*text, ctypes.c_bool, *room]
+    library.lr1_tables.argtypes = [*text, ctypes.c_bool, ctypes.c_bool, *room]
+    library.lr1_check.argtypes = [*text, *numbers, *room]
+    library.lr1_action.argtypes = [*numbers, ctypes.c_uint32, ctypes.c_uint32, *room]
+    library.lr1_goto.argtypes = [*numbers, ctypes.c_uint32, ctypes.c_uint32, *room]
+    library.lr1_parse.argtypes = [*numbers, *numbers, ctypes.c_size_t, *room, count]
+    library.lr1_expected.argtypes = [*numbers, *numbers, ctypes.c_size_t, *room]
     if library.lr1_version() != _VERSION:
         raise ImportError(f"{path} has version {library.lr1_version()}, and version {_VERSION} is needed")
     return library
@@ -123,19 +131,42 @@ def check(text: Union[str, bytes], start: str, numbers: Iterable[int]) -> Answer
     >>> check('S = "x"', "S", numbers[:9])
     Answer(status=2, text='the tables: place 9: the numbers end before the tables\\n')
     """
-    numbers = list(numbers)
-    if not all(0 <= it < 1 << 32 for it in numbers):
-        raise ValueError("a number has more than 32 bits")
     given = text.encode() if isinstance(text, str) else bytes(text)
     name, room, length = start.encode(), _ROOM, ctypes.c_size_t()
-    tables = (ctypes.c_uint32 * len(numbers))(*numbers)
+    tables = array_of(numbers)
     while True:
         out = ctypes.create_string_buffer(room)
         status = _LIBRARY.lr1_check(
-            given, len(given), name, len(name), tables, len(numbers), out, room, ctypes.byref(length)
+            given, len(given), name, len(name), tables, len(tables), out, room, ctypes.byref(length)
         )
         if status == NO_MEMORY:
             raise MemoryError("the library lr1 found no memory")
         if length.value <= room:
             return Answer(status, ctypes.string_at(out, length.value).decode())
         room = length.value
+
+
+def numbered(call: str, *words: object, room: int = 64, more: Sequence[object] = ()) -> Tuple[int, List[int]]:
+    """The status and the numbers of a call, by its name and its first arguments."""
+    length = ctypes.c_size_t()
+    while True:
+        out = (ctypes.c_uint32 * room)()
+        status = getattr(_LIBRARY, call)(*words, out, room, ctypes.byref(length), *more)
+        if status == NO_MEMORY:
+            raise MemoryError("the library lr1 found no memory")
+        if length.value <= room:
+            return int(status), out[: length.value]
+        room = length.value
+
+
+def array_of(numbers: Iterable[int]) -> ctypes.Array[ctypes.c_uint32]:
+    """Numbers, as the library reads them."""
+    listed = list(numbers)
+    if any(not 0 <= it < 1 << 32 for it in listed):
+        raise ValueError("a number has more than 32 bits")
+    return (ctypes.c_uint32 * len(listed))(*listed)
+
+
+def position() -> ctypes.c_size_t:
+    """A place for a position."""
+    return ctypes.c_size_t()
