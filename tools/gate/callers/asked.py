@@ -152,8 +152,9 @@ def changed(chance, content):
 
 
 def refused_questions():
-    """The questions whose allocations are refused: each kind of answer, tables as numbers, for which there
-    is the start symbol alone, and a check of these. Each is asked by both methods."""
+    """The questions whose allocations are refused: each kind of answer, tables as numbers, a check of
+    these, and the calls that parse by them. Each is asked by both methods."""
     texts = ('S = E\nE = E "+" E\nE = "n"\n', 'S = L\nL = L I\nL =\ninline I\nI = "a"\nI = "b"\n', "S = x\"\n")
-    words = [*(f"S\0{it}" for it in (*SHOWN, "parse\0" "99\0a\0b", "report", "explain", "none")), "S", "S\0"]
+    words = [*(f"S\0{it}" for it in (*SHOWN, "parse\0" "99\0a\0b", "report", "explain", "none"))]
+    words += ["=tables", "=check", "=parse", "=expected"]
     return [Question(text.encode(), it.encode(), by) for text in texts for it in words for by in (False, True)]

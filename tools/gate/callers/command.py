@@ -14,6 +14,9 @@ filled. If none is given, it is made over the libraries that `rt ci` left, and s
   Some numbers have the verdict of the check that it gives them.
 - The tables of each stored grammar, by both methods, are faithful by the check. They are not with
   another number before the first token set, or without the last numbers.
+- 100,000 random calls take such numbers, of which half are changed or cut off. None writes outside the
+  room, or reads outside the numbers. With numbers that are as they were, the answers are those of a
+  parser that follows docs/FORMATS.md.
 - Each allocation of some questions is refused in turn, alone and with all after it. The status is 3,
   and nothing leaks. If one is refused alone, the answer may also be the right one, since a list that
   finds no room to spare grows by less.
@@ -64,6 +67,7 @@ def parts_of(stored):
         ("numbers", in_c.numbers),
         ("checks", in_c.checks),
         ("own tables", functools.partial(in_c.own, stored=stored)),
+        ("random calls by numbers", in_c.by_numbers),
         ("names", in_c.names),
     )
 

@@ -33,6 +33,13 @@ CHECKS = (
     (40, 1, "1 the tables are not faithful\n"),
 )
 
+# Texts by whose tables random calls are made, and how many for each.
+BY_NUMBERS = (
+    'S = A\nA = "x"', 'S = E\nE = E "+" T\nE = T\nT = T "*" F\nT = F\nF = "(" E ")"\nF = "n"',
+    'S = L\nL = L I ";"\nL =\nI = "a"\nI = "b" O\nO =\nO = "c"', 'S = "if" C S "else" S\nS = "x"\nC = "(" C ")"\nC =', "S =",
+)
+CALLS = 10_000
+
 CPP_CALLER = """#include <lr1.h>
 #include <cstdio>
 #include <string>
@@ -182,3 +189,11 @@ def own(library, room, stored):
     program = compiled(library, room, "own", f"{HERE}/own.c", *flags)
     said, faults = said_of(stored.for_tables(), room, program, **variables)
     return said, faults or ["expected tables"] * (" 0 tables" in said)
+
+
+def by_numbers(library, room):
+    """Random calls that take the numbers of tables, of which some are changed."""
+    flags, variables = sanitizer(room)
+    program = compiled(library, room, "by_numbers", f"{HERE}/by_numbers.c", *flags)
+    said = ran(program, str(CALLS), *BY_NUMBERS, **variables)
+    return said.strip(), []

@@ -1,13 +1,14 @@
 /*
  * refuse QUESTIONS
  *
- * Asks each question over and over, while one allocation is refused, or while all from one on are. A
- * question with a single word asks for the tables with that start symbol, as numbers with items. If an
- * empty word is after it, these tables are checked. This program is linked so that the library calls
- * the functions below in the place of malloc, realloc and free. Each such call must free all that it
- * took, and return LR1_NO_MEMORY. If only one allocation is refused, it may also return the right
- * answer, since a list that finds no room to spare grows by less. So it may if all that was refused is
- * that blocks become smaller, since a call can keep the larger blocks.
+ * Asks each question over and over, while one allocation is refused, or while all from one on are. The
+ * words `=tables` ask for the tables with the start symbol S, as numbers with items, and `=check` asks
+ * for a check of these. `=parse` and `=expected` ask for a parse of TOKENS by them, and for the tokens
+ * that may come after the first of TOKENS. This program is linked so that the library calls the
+ * functions below in the place of malloc, realloc and free. Each such call must free all that it took,
+ * and return LR1_NO_MEMORY. If only one allocation is refused, it may also return the right answer,
+ * since a list that finds no room to spare grows by less. So it may if all that was refused is that
+ * blocks become smaller, since a call can keep the larger blocks.
  */
 #include "questions.h"
 #include <malloc.h>
@@ -65,33 +66,48 @@ struct answer {
     size_t length;
 };
 
-static struct answer right, other, checked;
+static struct answer right, other, tables;
 
-enum call { ASK, TABLES, CHECK };
+/* The tokens that are parsed. */
+static const uint32_t TOKENS[] = {1, 0, 1};
+enum { COUNT = sizeof TOKENS / sizeof *TOKENS, STEPS = 100 };
+
+enum call { ASK, TABLES, CHECK, PARSE, EXPECTED };
+
+static bool asks(const struct question *it, const char *word)
+{
+    return it->words.length == strlen(word) && memcmp(it->words.bytes, word, it->words.length) == 0;
+}
 
 static enum call call_of(const struct question *it)
 {
-    const uint8_t *end = memchr(it->words.bytes, 0, it->words.length);
-    if (end == NULL)
-        return TABLES;
-    return (size_t)(end - it->words.bytes) + 1 == it->words.length ? CHECK : ASK;
+    static const char *const WORDS[] = {[TABLES] = "=tables", [CHECK] = "=check", [PARSE] = "=parse", [EXPECTED] = "=expected"};
+    for (int call = TABLES; call <= EXPECTED; call++)
+        if (asks(it, WORDS[call]))
+            return (enum call)call;
+    return ASK;
 }
 
-/* Writes the tables with items of a question whose start symbol has so many bytes. */
-static uint8_t write_tables(struct answer *to, const struct question *it, size_t start)
+/* Writes the tables of a question, with items. */
+static uint8_t write_tables(struct answer *to, const struct question *it)
 {
-    return lr1_tables(it->text.bytes, it->text.length, it->words.bytes, start, it->canonical, true,
-                      to->numbers, ROOM, &to->length);
+    return lr1_tables(it->text.bytes, it->text.length, (const uint8_t *)"S", 1, it->canonical, true, to->numbers,
+                      ROOM, &to->length);
 }
 
 static uint8_t called(struct answer *to, const struct question *it)
 {
+    size_t read;
     switch (call_of(it)) {
     case TABLES:
-        return write_tables(to, it, it->words.length);
+        return write_tables(to, it);
     case CHECK:
-        return lr1_check(it->text.bytes, it->text.length, it->words.bytes, it->words.length - 1,
-                         checked.numbers, checked.length, to->bytes, ROOM, &to->length);
+        return lr1_check(it->text.bytes, it->text.length, (const uint8_t *)"S", 1, tables.numbers, tables.length,
+                         to->bytes, ROOM, &to->length);
+    case PARSE:
+        return lr1_parse(tables.numbers, tables.length, TOKENS, COUNT, STEPS, to->numbers, ROOM, &to->length, &read);
+    case EXPECTED:
+        return lr1_expected(tables.numbers, tables.length, TOKENS, 1, STEPS, to->numbers, ROOM, &to->length);
     default:
         return lr1_ask(it->text.bytes, it->text.length, it->words.bytes, it->words.length, it->canonical,
                        to->bytes, ROOM, &to->length);
@@ -102,7 +118,7 @@ static bool are_equal(const struct answer *a, const struct answer *b, const stru
 {
     if (a->status != b->status || a->length != b->length)
         return false;
-    if (call_of(it) == TABLES)
+    if (call_of(it) != ASK && call_of(it) != CHECK)
         return memcmp(a->numbers, b->numbers, a->length * sizeof *a->numbers) == 0;
     return memcmp(a->bytes, b->bytes, a->length) == 0;
 }
@@ -129,8 +145,7 @@ static struct {
 static void refuse_each(const struct question *it, size_t number, bool all_after)
 {
     memory.refused = NONE;
-    if (call_of(it) == CHECK)
-        write_tables(&checked, it, it->words.length - 1);
+    write_tables(&tables, it);
     ask(&right, it, number, NONE, all_after);
     long count = memory.made;
     if (right.status == LR1_NO_MEMORY)
@@ -150,9 +165,9 @@ static void refuse_each(const struct question *it, size_t number, bool all_after
 
 int main(int count, char **arguments)
 {
+    memory.refused = NONE;
     if (count != 2)
         return 2;
-    memory.refused = NONE;
     struct part rest = read_file(arguments[1]);
     const uint8_t *questions = rest.bytes;
     size_t number = 0;

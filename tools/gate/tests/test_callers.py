@@ -26,6 +26,13 @@ uint8_t lr1_tables(const uint8_t *text, size_t text_length, const uint8_t *start
 {
     void *block = malloc(10);
     (void)text, (void)start, (void)canonical, (void)items;
+#if FAULT >= 30
+    static const uint32_t NUMBERS[] = {1280454996, 1, 0, 1, 1, 1, 1, 2, 13, 15, 20, 0, 1, 1, 1, 1, 0, 1, 0, 0, 0, 0, 1, 0, 0};
+    free(block);
+    *length = sizeof NUMBERS / sizeof *NUMBERS;
+    memcpy(out, NUMBERS, sizeof NUMBERS);
+    return LR1_OK;
+#endif
     if (block == NULL && FAULT != 15)
         return LR1_NO_MEMORY;
     free(block);
@@ -90,6 +97,42 @@ uint8_t lr1_ask(const uint8_t *text, size_t text_length, const uint8_t *words, s
     return (uint8_t)(FAULT == STATUS && room == 1 ? 1 : canonical);
 }
 """
+BY_NUMBERS = """
+static uint8_t by_numbers(uint32_t *out, size_t room, size_t *length)
+{
+    *length = FAULT == 34 ? room + 1 : 0;
+    if (FAULT == 31)
+        out[-1] = 0;
+    if (FAULT == 32 && room > 0)
+        out[0] = 0;
+    return FAULT == 33 ? 9 : LR1_FAULT;
+}
+uint8_t lr1_action(const uint32_t *tables, size_t tables_length, uint32_t state, uint32_t token,
+                   uint32_t *out, size_t room, size_t *length)
+{
+    (void)tables, (void)tables_length, (void)state, (void)token;
+    return by_numbers(out, room, length);
+}
+uint8_t lr1_goto(const uint32_t *tables, size_t tables_length, uint32_t state, uint32_t nonterminal,
+                 uint32_t *out, size_t room, size_t *length)
+{
+    (void)tables, (void)tables_length, (void)state, (void)nonterminal;
+    return by_numbers(out, room, length);
+}
+uint8_t lr1_parse(const uint32_t *tables, size_t tables_length, const uint32_t *tokens, size_t tokens_length,
+                  size_t limit, uint32_t *out, size_t room, size_t *length, size_t *read)
+{
+    (void)tables, (void)tables_length, (void)tokens, (void)tokens_length, (void)limit;
+    *read = 0;
+    return by_numbers(out, room, length);
+}
+uint8_t lr1_expected(const uint32_t *tables, size_t tables_length, const uint32_t *tokens,
+                     size_t tokens_length, size_t limit, uint32_t *out, size_t room, size_t *length)
+{
+    (void)tables, (void)tables_length, (void)tokens, (void)tokens_length, (void)limit;
+    return by_numbers(out, room, length);
+}
+"""
 WORDS = [b"S\0json", b"S\0parse\0009", b"", b"S", b"\xff" * 200] * 5
 QUESTIONS = [Question(b"S = x", words, number % 2 == 1) for number, words in enumerate(WORDS)]
 # The number of a fault, and what the program prints of it.
@@ -107,7 +150,7 @@ CASES = [
 
 def library(room, fault):
     """A folder with a library that has a fault."""
-    write(f"{room}/library.c", LIBRARY)
+    write(f"{room}/library.c", LIBRARY + BY_NUMBERS)
     shutil.copy(f"{ROOT}/bindings/c/lr1.h", room)
     for command in (
         f"gcc -fPIC -DFAULT={fault} -I. -c library.c",
@@ -144,7 +187,7 @@ class Refused(unittest.TestCase):
 
     def test_right_library(self):
         said, faults = self.refused(0)
-        self.assertRegex(said, r"^90 questions, (\d+) refused allocations, \1 of them reported$")
+        self.assertRegex(said, r"^102 questions, (\d+) refused allocations, \1 of them reported$")
         self.assertEqual(faults, [])
 
     def test_faults(self):
@@ -156,7 +199,7 @@ class Refused(unittest.TestCase):
                 self.assertIn(text, faults[1])
 
     def test_faults_of_other_calls(self):
-        for fault, words, number in ((15, "b'S',", 26), (16, "b'S\\x00',", 28)):
+        for fault, words, number in ((15, "b'=tables',", 26), (16, "b'=check',", 28)):
             with self.subTest(fault):
                 _, faults = self.refused(fault)
                 self.assertIn(f"words {words}", faults[0])
@@ -168,7 +211,7 @@ class Names(unittest.TestCase):
         for fault, count in ((0, 0), (12, 2)):
             with self.subTest(fault), tempfile.TemporaryDirectory() as room:
                 said, faults = in_c.names(library(room, fault), room)
-                self.assertEqual((said, len(faults)), ("4 calls", count))
+                self.assertEqual((said, len(faults)), ("8 calls", count))
 
 
 class Numbers(unittest.TestCase):
@@ -183,6 +226,17 @@ class Numbers(unittest.TestCase):
             with self.subTest(fault), tempfile.TemporaryDirectory() as room:
                 with self.assertRaisesRegex(parts.Failed, text):
                     in_c.numbers(library(room, fault), room)
+
+
+class ByNumbers(unittest.TestCase):
+    def test_faults(self):
+        for fault, text in (
+            (0, "call 0: a text has no tables"), (30, "another status or length"), (31, "a number before the room was written"),
+            (32, "a number after the answer was written"), (33, "a status or a length"), (34, "another answer with another room"),
+        ):
+            with self.subTest(fault), tempfile.TemporaryDirectory() as room:
+                with self.assertRaisesRegex(parts.Failed, text):
+                    in_c.by_numbers(library(room, fault), room)
 
 
 class Questions(unittest.TestCase):
