@@ -2,13 +2,14 @@
 use Rattle.std.specs.Prelude.{◌+◌, ◌*◌, ◌==◌, ◌&&◌, ℕ, Bool, cond, nat_le, nat_lt, List, length, slice_get, slice_index, slice_range, Option, Some, None}
 use Rattle.parse_calls.specs.declared.places.Counts.{Counts}
 
--- whether a list begins as tables do: with their mark, the version 1 and the flags 0
+-- whether a list begins as tables do: with their mark and the version 1
 abbrev pub is_marked : List ℕ → Bool
-is_marked numbers = nat_le 8 (length numbers) && (slice_index numbers 0 == 1280454996) && (slice_index numbers 1 == 1) && (slice_index numbers 2 == 0)
+is_marked numbers = nat_le 8 (length numbers) && (slice_index numbers 0 == 1280454996) && (slice_index numbers 1 == 1)
 
 -- the counts of the head, if a list begins as tables do
 abbrev pub counts_of : List ℕ → Option Counts
 counts_of numbers = cond (is_marked numbers) (Some (record {
+  lists = slice_index numbers 2;
   terminals = slice_index numbers 3;
   nonterminals = slice_index numbers 4;
   productions = slice_index numbers 5;
@@ -80,7 +81,7 @@ pair_of (Some first) (Some second) = Some (first, second)
 
 -- the place of the nonterminal of the production with a number
 abbrev pub side_place : Counts → ℕ → ℕ
-side_place counts production = 8 + counts.sets + counts.states + 2 * production
+side_place counts production = 8 + counts.sets + counts.states + counts.lists + 2 * production
 
 -- the nonterminal of the production with a number and the length of its right side, if there is one
 abbrev pub side_of : List ℕ → Counts → ℕ → Option (ℕ × ℕ)

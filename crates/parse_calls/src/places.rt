@@ -8,9 +8,10 @@ const MARK: u32 = 1280454996;
 /// The version of the layout.
 const VERSION: u32 = 1;
 
-/// How many terminals, nonterminals, productions, token sets and states tables have.
+/// How many lists of items, terminals, nonterminals, productions, token sets and states tables have.
 #[derive(Clone, Copy)]
 pub(crate) struct Counts {
+    pub(crate) lists: u32,
     pub(crate) terminals: u32,
     pub(crate) nonterminals: u32,
     pub(crate) productions: u32,
@@ -33,10 +34,11 @@ pub(crate) fn counts_of(numbers: &[u32]) -> Option<Counts>
     if numbers.len() < 8 {
         return None;
     }
-    if numbers[0] != MARK || numbers[1] != VERSION || numbers[2] != 0 {
+    if numbers[0] != MARK || numbers[1] != VERSION {
         return None;
     }
     Some(Counts {
+        lists: numbers[2],
         terminals: numbers[3],
         nonterminals: numbers[4],
         productions: numbers[5],
@@ -148,7 +150,7 @@ pub(crate) fn side_of(numbers: &[u32], counts: Counts, production: u32) -> Optio
     if production >= counts.productions {
         return None;
     }
-    let sides = 8 + counts.sets as usize + counts.states as usize;
+    let sides = 8 + counts.sets as usize + counts.states as usize + counts.lists as usize;
     let place = sides + 2 * production as usize;
     let Some(name) = number_at(numbers, place) else {
         return None;

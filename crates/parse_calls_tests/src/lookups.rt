@@ -1,5 +1,5 @@
 // Actions and gotos, with rooms of each size.
-use crate::tables::{EXAMPLE, SUMS};
+use crate::tables::{EXAMPLE, EXAMPLE_WITH_ITEMS, SUMS};
 use parse_calls::action::action;
 use parse_calls::goto::goto;
 use std::alloc::Global;
@@ -74,6 +74,14 @@ fn actions_of_the_example(rt: HostRuntime) -> Result<(), Fail> {
     expect_action(&rt, alloc, &EXAMPLE, (1, 1), 0, &[1, 1, 1, 1])?;
     expect_action(&rt, alloc, &EXAMPLE, (2, 1), 0, &[1, 0, 0, 1])?;
     expect_action(&rt, alloc, &EXAMPLE, (2, 0), 1, &[])
+}
+
+#[test]
+fn actions_with_items(rt: HostRuntime) -> Result<(), Fail> {
+    let alloc = rt.alloc();
+    expect_action(&rt, alloc, &EXAMPLE_WITH_ITEMS, (0, 0), 0, &[0, 2])?;
+    expect_action(&rt, alloc, &EXAMPLE_WITH_ITEMS, (1, 1), 0, &[1, 1, 1, 1])?;
+    expect_goto(&rt, alloc, &EXAMPLE_WITH_ITEMS, (0, 0), 0, &[1])
 }
 
 // State 1 shifts `"+"` and reduces at the end. State 4 reduces a right side of three symbols.

@@ -8,6 +8,12 @@ pub(crate) const EXAMPLE: [u32; 35] = [
     1, 1, 0, 0, 0, 1, 0, 0,
 ];
 
+// The same tables with the items of each state.
+pub(crate) const EXAMPLE_WITH_ITEMS: [u32; 53] = [
+    1280454996, 1, 3, 1, 2, 2, 1, 3, 19, 21, 28, 33, 38, 45, 49, 0, 1, 1, 1, 1, 1, 1, 0, 2, 1, 0,
+    1, 0, 0, 0, 1, 1, 0, 0, 0, 1, 0, 0, 2, 0, 0, 0, 1, 0, 0, 1, 1, 1, 0, 1, 0, 1, 0,
+];
+
 // The grammar `S = E`, `E = E "+" "n"` and `E = "n"`. The terminals `"+"` and `"n"` are 0 and 1, and
 // the end of the input is 2. The nonterminals E and S are 0 and 1. The productions are 0 for
 // `E = E "+" "n"`, 1 for `E = "n"`, and 2 for `S = E`. The token sets are 0 for the end alone, and 1

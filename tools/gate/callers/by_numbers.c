@@ -1,11 +1,11 @@
 /*
  * by_numbers COUNT TEXT..
  *
- * Makes COUNT random calls that take numbers, by the tables of each text from S. Some of the numbers
- * are changed or cut off before. Each call is made with a random room and with just enough, and each
- * list of numbers ends before memory that no program may touch. Nothing around the room may be
- * written. With numbers that are not changed, the answers must be those of the parser below, which
- * follows docs/FORMATS.md. Prints how often each status was returned.
+ * Makes COUNT random calls that take numbers, by the tables of each text from S, and as many by these
+ * with items. Some of the numbers are changed or cut off before. Each call is made with a random room
+ * and with just enough, and each list of numbers ends before memory that no program may touch. Nothing
+ * around the room may be written. With numbers that are not changed, the answers must be those of the
+ * parser below, which follows docs/FORMATS.md. Prints how often each status was returned.
  */
 #define _GNU_SOURCE
 #include <lr1.h>
@@ -117,7 +117,7 @@ static size_t block_of(uint32_t state)
 
 static size_t side_of(uint32_t production)
 {
-    return 8 + tables[6] + tables[7] + 2 * production;
+    return 8 + tables[6] + tables[7] + tables[2] + 2 * production;
 }
 
 /* The action: 0 and a state, 1 and a production, or 2 if there is none. */
@@ -269,6 +269,33 @@ static void random_call(struct call *it)
     it->name = below((it->kind == 0 ? tables[3] : tables[4]) + 2);
 }
 
+/* Makes a random call with three rooms, and compares the answers. Returns the status. */
+static uint8_t try_call(size_t number)
+{
+    static uint32_t right[MOST];
+    struct call it;
+    struct answer first, second;
+    random_call(&it);
+    bool changed = copied(&it);
+    with_room(&it, below(20), &first, number);
+    expect(first.status < 4 && first.length < MOST - GUARD, "a status or a length", number);
+    const uint32_t *out = with_room(&it, first.length, &second, number);
+    expect(second.status == first.status && second.length == first.length && second.read == first.read,
+           "another answer with another room", number);
+    memcpy(whole, out, first.length * sizeof *whole);
+    size_t room = below((uint32_t)first.length + 2);
+    out = with_room(&it, room, &second, number);
+    expect(memcmp(out, whole, (room < first.length ? room : first.length) * sizeof *out) == 0,
+           "other numbers with another room", number);
+    if (changed)
+        return first.status;
+    struct answer want = wanted(&it, right);
+    expect(want.status == first.status && want.length == first.length, "another status or length", number);
+    expect(it.kind != 2 || want.read == first.read, "another count of tokens", number);
+    expect(memcmp(right, whole, want.length * sizeof *right) == 0, "another answer", number);
+    return first.status;
+}
+
 int main(int count, char **words)
 {
     size_t statuses[4] = {0}, number = 0;
@@ -277,34 +304,13 @@ int main(int count, char **words)
     make(&tables_memory);
     make(&tokens_memory);
     make(&room_memory);
-    for (int text = 2; text < count; text++) {
-        uint8_t made = lr1_tables((const uint8_t *)words[text], strlen(words[text]), (const uint8_t *)"S", 1, false,
+    for (int text = 4; text < 2 * count; text++) {
+        const char *const from = words[text / 2];
+        uint8_t made = lr1_tables((const uint8_t *)from, strlen(from), (const uint8_t *)"S", 1, false, text % 2 == 1,
                                   tables, MOST, &tables_length);
         expect(made == LR1_OK && tables_length <= MOST, "a text has no tables", number);
-        for (size_t last = number + strtoul(words[1], NULL, 10); number < last; number++) {
-            struct call it;
-            struct answer first, second;
-            random_call(&it);
-            bool changed = copied(&it);
-            with_room(&it, below(20), &first, number);
-            expect(first.status < 4 && first.length < MOST - GUARD, "a status or a length", number);
-            const uint32_t *out = with_room(&it, first.length, &second, number);
-            expect(second.status == first.status && second.length == first.length && second.read == first.read,
-                   "another answer with another room", number);
-            memcpy(whole, out, first.length * sizeof *whole);
-            size_t room = below((uint32_t)first.length + 2);
-            out = with_room(&it, room, &second, number);
-            expect(memcmp(out, whole, (room < first.length ? room : first.length) * sizeof *out) == 0,
-                   "other numbers with another room", number);
-            statuses[first.status]++;
-            if (changed)
-                continue;
-            static uint32_t right[MOST];
-            struct answer want = wanted(&it, right);
-            expect(want.status == first.status && want.length == first.length, "another status or length", number);
-            expect(it.kind != 2 || want.read == first.read, "another count of tokens", number);
-            expect(memcmp(right, whole, want.length * sizeof *right) == 0, "another answer", number);
-        }
+        for (size_t last = number + strtoul(words[1], NULL, 10); number < last; number++)
+            statuses[try_call(number)]++;
     }
     printf("%zu calls, %zu of status 0, %zu of status 1, %zu of status 2\n", number, statuses[0], statuses[1], statuses[2]);
     return statuses[0] > 0 && statuses[1] > 0 && statuses[2] > 0 && statuses[3] == 0 ? 0 : 1;
