@@ -9,9 +9,9 @@
 pub mod action;
 pub mod expected;
 pub mod goto;
-mod lookups;
-mod machine;
+pub mod lookups;
+pub mod machine;
 pub mod parse;
-mod places;
+pub mod places;
 mod room;
-mod turns;
+pub mod turns;

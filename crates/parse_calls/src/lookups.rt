@@ -8,7 +8,7 @@ use crate::places::{Counts, block_of, counts_of, set_of, side_of};
 /// The action of a state on a token: none, a shift to a state, or a reduction by a production.
 /// `Fault` means that the numbers have no such state or token.
 #[derive(Clone, Copy)]
-pub(crate) enum Found {
+pub enum Found {
     Fault,
     Nothing,
     Shift(u32),
@@ -18,7 +18,7 @@ pub(crate) enum Found {
 /// The goto of a state on a nonterminal: none, or a state. `Fault` means that the numbers have no
 /// such state or nonterminal.
 #[derive(Clone, Copy)]
-pub(crate) enum Target {
+pub enum Target {
     Fault,
     Nothing,
     State(u32),

@@ -18,7 +18,7 @@ pub(crate) struct Machine {
 /// final one, and whether one tree is left; no step is left and there is another; or the numbers do
 /// not say what is done.
 #[derive(Clone, Copy)]
-pub(crate) enum Ending {
+pub enum Ending {
     AllShifted,
     Refused,
     Finished(bool),

@@ -10,13 +10,13 @@ const VERSION: u32 = 1;
 
 /// How many lists of items, terminals, nonterminals, productions, token sets and states tables have.
 #[derive(Clone, Copy)]
-pub(crate) struct Counts {
-    pub(crate) lists: u32,
-    pub(crate) terminals: u32,
-    pub(crate) nonterminals: u32,
-    pub(crate) productions: u32,
-    pub(crate) sets: u32,
-    pub(crate) states: u32,
+pub struct Counts {
+    pub lists: u32,
+    pub terminals: u32,
+    pub nonterminals: u32,
+    pub productions: u32,
+    pub sets: u32,
+    pub states: u32,
 }
 
 /// The shifts, gotos and reductions of a state, each as the numbers of pairs.

@@ -10,7 +10,7 @@ use crate::lookups::{Found, Target, action_at, goto_at, side_at};
 /// whether one tree is left. `Stuck` means that the token is refused, and `Faulty` that the numbers
 /// do not say.
 #[derive(Clone, Copy)]
-pub(crate) enum Turn {
+pub enum Turn {
     Faulty,
     Stuck,
     Shifts(u32),

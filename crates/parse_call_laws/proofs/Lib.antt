@@ -1,0 +1,5 @@
+pub mod Blocks
+pub mod Found
+pub mod Outcomes
+pub mod TablePlaces
+pub mod Turns
