@@ -1,5 +1,5 @@
 -- The conditions of the check of tables by number.
-use Rattle.std.specs.Prelude.{◌≡◌, ◌<◌, ◌+◌, ◌⊎◌, ◌↔◌, ℕ, Bool, true, List, length, slice_get, Some, Contains}
+use Rattle.std.specs.Prelude.{◌≡◌, ◌<◌, ◌+◌, ◌⊎◌, ◌↔◌, ℕ, Bool, true, List, length, slice_get, Option, Some, Contains}
 use Rattle.std.specs.Borrow.{Bor}
 use Rattle.lalrpop_base.specs.Words.{AllDiffer, Bits, Dotted, InClosure, InKernel, Rules, contents_of, has}
 use Rattle.lalrpop_check.specs.check.ExpectedKernels.{IsKernelAt}
@@ -41,6 +41,11 @@ pub record AreListedByNumber (g : Rules) (start : NonterminalString) (n : Number
   pub counted : length list ≡ length states
   pub each : (s : ℕ) (old : State Bits) (state : NumberedState) → slice_get states s ≡ Some old → slice_get list s ≡ Some state → IsListedState g start n s old state
 
+-- each state that is listed at its place lists the closure of its kernel
+pub record AreListedAtPlaces (g : Rules) (start : NonterminalString) (n : Numbers) (states : List (State Bits)) (list : List (Option NumberedState)) : Type 0 where
+  pub counted : length list ≡ length states
+  pub each : (s : ℕ) (old : State Bits) (state : NumberedState) → slice_get states s ≡ Some old → slice_get list s ≡ Some (Some state) → IsListedState g start n s old state
+
 -- ---- the targets of symbols
 -- the symbol x leads to a state that lists the moved item. Below, this is so for the symbol after
 -- the item's dot, if there is one
@@ -69,15 +74,23 @@ pub data IsReachedByNumber (list : List NumberedState) : ℕ → Type 0 where
 abbrev pub AreMarkedReached : List NumberedState → List Bool → Type 0
 AreMarkedReached list marks = (m : ℕ) → slice_get marks m ≡ Some true → IsReachedByNumber list m
 
--- each marked state was marked before, or is the target
-pub record MarksTarget (target : ℕ) (old new : List Bool) : Type 0 where
+-- each state that was found is marked
+abbrev pub AreFoundMarked : List Bool → List ℕ → Type 0
+AreFoundMarked marks found = (m : ℕ) → Contains found m → slice_get marks m ≡ Some true
+
+-- each marked state was marked before, or is the target. Each state that was found is marked, if that
+-- was so before
+pub record MarksTarget (target : ℕ) (old : List Bool) (found : List ℕ) (new : List Bool) (more : List ℕ) : Type 0 where
   pub counted : length new ≡ length old
   pub from : (m : ℕ) → slice_get new m ≡ Some true → (slice_get old m ≡ Some true) ⊎ (m ≡ target)
+  pub marked : AreFoundMarked old found → AreFoundMarked new more
 
--- each marked state was marked before, or is a target of the edges
-pub record MarksTargets (edges : List (ℕ × ℕ)) (old new : List Bool) : Type 0 where
+-- each marked state was marked before, or is a target of the edges. Each state that was found is
+-- marked, if that was so before
+pub record MarksTargets (edges : List (ℕ × ℕ)) (old : List Bool) (found : List ℕ) (new : List Bool) (more : List ℕ) : Type 0 where
   pub counted : length new ≡ length old
   pub from : (m : ℕ) → slice_get new m ≡ Some true → (slice_get old m ≡ Some true) ⊎ ((x : ℕ) × Contains edges (x, m))
+  pub marked : AreFoundMarked old found → AreFoundMarked new more
 
 -- each state of the list is reached
 abbrev pub AreReachedByNumber : List NumberedState → Type 0

@@ -1,5 +1,5 @@
 //! Tests whether all states are reached from the first, and no edge leads to the first.
-ghost use Rattle.std.specs.Prelude.{◌≡◌, ◌<◌, ◌⊎◌, length, slice_get, Some, true, IfOk, IsFalse, IsTrue};
+ghost use Rattle.std.specs.Prelude.{◌≡◌, ◌<◌, ℕ, length, slice_get, Some, true, IfOk, IsFalse, IsTrue, OnOk};
 ghost use Rattle.lalrpop_base.specs.Words.{LeadsBy, IsTarget};
 ghost use Rattle.lalrpop_check.specs.check.ByNumber.{AreReachedByNumber, MarksTarget, MarksTargets};
 
@@ -37,47 +37,69 @@ pub(super) fn lead_to_first<'grammar>(states: &[Lr1State<'grammar>]) -> bool
     false
 }
 
-// Marks the state with the number `target`, if there is one.
-fn mark_target(target: usize, marks: &mut Vec<bool>)
-    ensures { MarksTarget target marks.old.items marks.new.items }
+// Marks the state with the number `target`, if there is one. If it was not marked, it is found.
+fn mark_target(
+    target: usize,
+    marks: &mut Vec<bool>,
+    found: &mut Vec<usize>,
+) -> Result<(), OutOfMemory>
+    ensures { OnOk result (MarksTarget target marks.old.items found.old.items marks.new.items
+        found.new.items) }
 {
     if target >= marks.len() {
-        return;
+        return Ok(());
+    }
+    if marks[target] {
+        return Ok(());
     }
     marks[target] = true;
+    found.push(target)?;
+    Ok(())
 }
 
-// Marks the states to which edges lead.
-fn mark_targets(edges: &[(usize, usize)], marks: &mut Vec<bool>)
-    ensures { MarksTargets edges.now marks.old.items marks.new.items }
+// Marks the states to which edges lead. Those that were not marked are found.
+fn mark_targets(
+    edges: &[(usize, usize)],
+    marks: &mut Vec<bool>,
+    found: &mut Vec<usize>,
+) -> Result<(), OutOfMemory>
+    ensures { OnOk result (MarksTargets edges.now marks.old.items found.old.items marks.new.items
+        found.new.items) }
 {
     for edge in edges {
-        mark_target(edge.1, marks);
+        mark_target(edge.1, marks, found)?;
     }
+    Ok(())
 }
 
-// Whether a state is the first, or is marked.
-fn is_marked(place: usize, marks: &[bool]) -> bool
-    requires { place < length marks.now }
-    ensures { IsTrue result → (place ≡ 0) ⊎ (slice_get marks.now place ≡ Some true) }
+// Whether all states are marked.
+fn all_marked(marks: &[bool]) -> bool
+    ensures { IsTrue result → (s : ℕ) → s < length marks.now → slice_get marks.now s ≡ Some true }
 {
-    if place == 0 {
-        return true;
+    for mark in marks {
+        if !*mark {
+            return false;
+        }
     }
-    marks[place]
+    true
 }
 
-/// Whether each state but the first is the target of an earlier state. Then all states are reached
-/// from the first.
+/// Whether all states are reached from the first.
 pub(super) fn are_reached(alloc: Global, states: &[NumberedState]) -> Result<bool, OutOfMemory>
     ensures { IfOk result (λ yes. IsTrue yes → AreReachedByNumber states.now) }
 {
     let mut marks = vec![in alloc; false; states.len()]?;
-    for place in 0..states.len() {
-        if !is_marked(place, &marks) {
+    let mut found = Vec::with_capacity(alloc, states.len())?;
+    mark_target(0, &mut marks, &mut found)?;
+    for count in 0..states.len() {
+        if count >= found.len() {
             return Ok(false);
         }
-        mark_targets(&states[place].edges, &mut marks);
+        let place = found[count];
+        if place >= states.len() {
+            return Ok(false);
+        }
+        mark_targets(&states[place].edges, &mut marks, &mut found)?;
     }
-    Ok(true)
+    Ok(all_marked(&marks))
 }

@@ -1,5 +1,5 @@
 //! The kernels that are expected of states.
-ghost use Rattle.std.specs.Prelude.{IfSome, IsTrue};
+ghost use Rattle.std.specs.Prelude.{◌<◌, IfSome, IsTrue};
 ghost use Rattle.lalrpop_check.specs.check.ExpectedKernels.{AreMovedKernel, IsMovedNumber, NumbersRise};
 ghost use Rattle.lalrpop_construction.specs.states.NumberedStates.{EdgesAscend};
 
@@ -11,14 +11,17 @@ use lalrpop_construction::construction::numbered_state::NumberedState;
 use lalrpop_follow_sets::follow_sets::edges::place_of;
 use std::alloc::Global;
 
-/// For each state the kernel that is expected of it, by number. The first state that leads to it
-/// gives the kernel: its items that move over the edge. The lists may have any numbers.
+/// For each state the kernel that is expected of it, by number. The first state that is found to
+/// lead to it gives the kernel: its items that move over the edge. The lists may have any numbers.
 #[derive(Drop)]
 pub(super) struct Kernels {
     /// Empty if no state leads there yet.
     lists: Vec<Vec<Numbered<Nil>>>,
     /// The number, counted from 1, of the first state that led there, and 0 if there is none.
     from: Vec<usize>,
+    /// The first state, and then each state to which one of these leads, in the order in which they
+    /// are found.
+    found: Vec<usize>,
 }
 
 // Whether a number is that of an item whose dot moved.
@@ -66,7 +69,17 @@ impl Kernels {
             lists.push(Vec::new(alloc))?;
         }
         let from = vec![in alloc; 0; count]?;
-        Ok(Kernels { lists, from })
+        let mut found = Vec::with_capacity(alloc, count)?;
+        found.push(0)?;
+        Ok(Kernels { lists, from, found })
+    }
+
+    /// The state at a place of the order, if one of `count` states was found there.
+    pub(super) fn found(&self, place: usize, count: usize) -> Option<usize>
+        ensures { IfSome result (λ state. state < count) }
+    {
+        let state = *self.found.get(place)?;
+        if state < count { Some(state) } else { None }
     }
 
     /// The kernel that is expected of a state. `None` if the numbers listed for the state are no
@@ -85,13 +98,14 @@ impl Kernels {
         }
     }
 
-    // Adds a moved item to the kernel that is expected of a target, if no earlier state led there.
+    // Adds a moved item to the kernel that is expected of a target, if no state before led there.
     fn add(&mut self, count: usize, target: usize, item: usize) -> Result<(), OutOfMemory> {
         if target >= self.from.len() || target >= self.lists.len() {
             return Ok(());
         }
         if self.from[target] == 0 {
             self.from[target] = count;
+            self.found.push(target)?;
         }
         if self.from[target] == count {
             self.lists[target].push(Numbered {
@@ -125,8 +139,8 @@ impl Kernels {
         self.add(count, target, item + 1)
     }
 
-    /// Adds the items that a state moves over its edges. `count` is the number of states up to this
-    /// one.
+    /// Adds the items that a state moves over its edges. `count` is the number of states in the order
+    /// up to this one.
     pub(super) fn add_moves(
         &mut self,
         numbers: &Numbers<'_>,

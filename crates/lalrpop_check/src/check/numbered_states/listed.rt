@@ -1,5 +1,5 @@
 //! States by number, each of which lists the closure of its kernel.
-ghost use Rattle.std.specs.Prelude.{◌≡◌, ◌<◌, ℕ, length, Contains, IfOk, IfSome};
+ghost use Rattle.std.specs.Prelude.{◌≡◌, ◌<◌, ℕ, length, map, replicate, Contains, IfOk, IfSome, None, Some};
 ghost use Rattle.lalrpop_base.specs.Words.{AllDiffer, AreItemsBy, Rules, AreNumbered, AreNumbers, NumbersAscend, items_by};
 ghost use Rattle.lalrpop_check.specs.check.ExpectedKernels.{IsKernelOf, no_tokens};
 ghost use Rattle.lalrpop_check.specs.check.ByNumber.{AreListedByNumber, IsListedOver, ListsClosure};
@@ -134,8 +134,38 @@ fn listed_state<'grammar>(
     state_over(alloc, numbers, items, &symbols, state)
 }
 
-/// The states by number. Each must list the closure of its kernel, lead by the symbols after its
-/// dots, and reduce its finished items. Else the result is `None`.
+// A place for each of so many states, of which none is listed.
+fn no_states(alloc: Global, count: usize) -> Result<Vec<Option<NumberedState>>, OutOfMemory>
+    ensures { IfOk result (λ list. list.items ≡ replicate count None) }
+{
+    let mut list = Vec::with_capacity(alloc, count)?;
+    for _place in 0..count {
+        list.push(None)?;
+    }
+    Ok(list)
+}
+
+// The states, if each of them is listed.
+fn all_listed(
+    alloc: Global,
+    list: Vec<Option<NumberedState>>,
+) -> Result<Option<Vec<NumberedState>>, OutOfMemory>
+    ensures { IfOk result (λ answer. IfSome answer
+        (λ states. list.items ≡ map Some states.items)) }
+{
+    let mut states = Vec::with_capacity(alloc, list.len())?;
+    for place in list {
+        let Some(state) = place else {
+            return Ok(None);
+        };
+        states.push(state)?;
+    }
+    Ok(Some(states))
+}
+
+/// The states by number. Each must be reached from the first, list the closure of its kernel, lead
+/// by the symbols after its dots, and reduce its finished items. Else the result is `None`. A state
+/// is listed after one that leads to it, whatever their numbers are.
 pub(crate) fn listed_by_number<'grammar>(
     alloc: Global,
     lr: &Lr<'grammar, Nil>,
@@ -151,17 +181,20 @@ pub(crate) fn listed_by_number<'grammar>(
     let start = lr.start_kernel(alloc, numbers)?;
     let mut kernels = Kernels::new(alloc, states.len())?;
     let mut work = Workspace::new(alloc);
-    let mut list = Vec::with_capacity(alloc, states.len())?;
-    for state in states {
-        let place = list.len();
+    let mut list = no_states(alloc, states.len())?;
+    for count in 0..states.len() {
+        let Some(place) = kernels.found(count, states.len()) else {
+            return Ok(None);
+        };
+        let state = &states[place];
         let Some(kernel) = kernel_of(lr, numbers, start.as_slice(), &kernels, place) else {
             return Ok(None);
         };
         let Some(new) = listed_state(alloc, lr, numbers, kernel, &mut work, state)? else {
             return Ok(None);
         };
-        kernels.add_moves(numbers, place + 1, &new)?;
-        list.push(new)?;
+        kernels.add_moves(numbers, count + 1, &new)?;
+        list[place] = Some(new);
     }
-    Ok(Some(list))
+    all_listed(alloc, list)
 }
