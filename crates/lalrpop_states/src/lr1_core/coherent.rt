@@ -1,6 +1,6 @@
 //! The test whether states are coherent: whether their numbers, edges and reductions agree with
 //! their items.
-ghost use Rattle.std.specs.Prelude.{◌≡◌, ◌-◌, ◌<◌, ◌↔◌, ℕ, List, slice_get, Some, IsTrue, IfOk};
+ghost use Rattle.std.specs.Prelude.{◌≡◌, ◌-◌, ◌<◌, ◌↔◌, ℕ, List, slice_get, Some, IsTrue, IsNone, IfOk, IfSome};
 ghost use Rattle.lalrpop_collections.specs.lists.Each.{EachItem};
 ghost use Rattle.lalrpop_grammar.specs.grammars.Names.{symbol_text};
 ghost use Rattle.lalrpop_states.specs.states.Coherent.{AreCoherent, IsCoherentState, IsCoherentEdge, IsCoherentStep, HasItem, StartsAtZero, AreFinished, IsAt, IsShiftedFrom, symbol_of_ref};
@@ -171,23 +171,39 @@ fn is_coherent_step<'grammar, L>(
 fn has_item<'grammar, L>(items: &[Item<'grammar, L>], production: &Production, index: usize) -> bool
     ensures { IsTrue result ↔ HasItem items.now production.now index }
 {
-    for item in items {
-        if is_at(item, production, index) {
-            return true;
+    item_place(items, production, index, 0).is_some()
+}
+
+// The first place, from one on, of an item that is the production with the dot at the index.
+fn item_place<'grammar, L>(
+    items: &[Item<'grammar, L>],
+    production: &Production,
+    index: usize,
+    from: usize,
+) -> Option<usize>
+    ensures found { IfSome result (λ place. HasItem items.now production.now index) }
+    ensures absent { IsNone result → from ≡ 0 → ¬ HasItem items.now production.now index }
+{
+    for place in from..items.len() {
+        if is_at(&items[place], production, index) {
+            return Some(place);
         }
     }
-    false
+    None
 }
 
 // Whether an item is the production with the dot at the index.
 fn is_at<'grammar, L>(item: &Item<'grammar, L>, production: &Production, index: usize) -> bool
     ensures { IsTrue result ↔ IsAt item.now production.now index }
 {
-    item.index == index && equal(item.production, production)
+    item.index == index
+        && item.production.symbols.len() == production.symbols.len()
+        && equal(item.production, production)
 }
 
 // Whether each item of the target whose dot is past the start comes from an item of the source, by
-// moving the dot over the symbol.
+// moving the dot over the symbol. Each search begins where the last one ended, since most states
+// list their items in one order.
 fn is_coherent_edge<'grammar, L>(
     source: &[Item<'grammar, L>],
     symbol: SymbolRef,
@@ -195,25 +211,37 @@ fn is_coherent_edge<'grammar, L>(
 ) -> bool
     ensures { IsTrue result ↔ IsCoherentEdge source.now (symbol_of_ref symbol.entry) target.now }
 {
+    let mut from = 0;
     for item in target {
-        if !is_shifted(source, symbol, item) {
-            return false;
+        match source_place(source, symbol, item, from) {
+            Some(place) => from = place,
+            None => return false,
         }
     }
     true
 }
 
-// Whether an item has its dot at the start, or comes from an item of the source over the symbol.
-fn is_shifted<'grammar, L>(
+// The place in the source of the item that an item comes from over the symbol, or `from` if the dot
+// of the item is at the start. It is sought from `from` on, and then from the first place on.
+fn source_place<'grammar, L>(
     source: &[Item<'grammar, L>],
     symbol: SymbolRef,
     item: &Item<'grammar, L>,
-) -> bool
-    ensures { IsTrue result ↔
-        (0 < item.now.index → IsShiftedFrom source.now (symbol_of_ref symbol.entry) item.now) }
+    from: usize,
+) -> Option<usize>
+    ensures found { IfSome result (λ place. 0 < item.now.index →
+        IsShiftedFrom source.now (symbol_of_ref symbol.entry) item.now) }
+    ensures absent { IsNone result →
+        ¬ (0 < item.now.index → IsShiftedFrom source.now (symbol_of_ref symbol.entry) item.now) }
 {
     if item.index == 0 {
-        return true;
+        return Some(from);
     }
-    is_symbol(item.shifted_symbol(), symbol) && has_item(source, item.production, item.index - 1)
+    if !is_symbol(item.shifted_symbol(), symbol) {
+        return None;
+    }
+    match item_place(source, item.production, item.index - 1, from) {
+        Some(place) => Some(place),
+        None => item_place(source, item.production, item.index - 1, 0),
+    }
 }
