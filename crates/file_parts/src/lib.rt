@@ -1,0 +1,8 @@
+//! Parts of the texts of generated files.
+//!
+//! - `numbers`: the lines of an array of numbers.
+//! - `fixed`: a fixed text in which names have a prefix.
+#![tactic(auto)]
+
+pub mod fixed;
+pub mod numbers;

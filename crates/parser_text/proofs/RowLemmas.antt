@@ -1,0 +1,19 @@
+-- Rows of states, while they are listed.
+use Rattle.std.proofs.Common.{◌≡◌, ⊎_elim, ℕ, ◌+◌, ◌<◌, ◌≤◌, List, [], ◌∷◌, ◌++◌, length, length-append, slice_get, slice_index, None, Some, refl, sym, ◌∙◌, ap, subst, arith}
+use Rattle.std.proofs.lemmas.Bool.{cases_lt}
+use Rattle.std.specs.declared.alloc.Global.{Global}
+use Rattle.std.specs.declared.vec.Vec.{Vec}
+use Rattle.lalrpop_collections.proofs.theory.lists.Places.{slice_get-append_before}
+use Rattle.lalrpop_collections.proofs.theory.states.KernelLemmas.{slice_get-push_at}
+use Rattle.packed_tables.specs.Packed.{numbers_of, row_at}
+
+-- each row is right for the state with its number, and one more is added
+pub more_rows : (IsRight : ℕ → List ℕ → Type 0) (rows : List (Vec ℕ Global)) (row : Vec ℕ Global) → ((n : ℕ) → n < length rows → IsRight n (row_at rows n)) → IsRight (length rows) row.items → (n : ℕ) → n < length (rows ++ row ∷ []) → IsRight n (row_at (rows ++ row ∷ []) n)
+more_rows IsRight rows row below is n within = ⊎_elim
+    (λ (l : n < length rows). subst (IsRight n) (sym (ap numbers_of (slice_get-append_before rows (row ∷ []) n l))) (below n l))
+    (λ (from : length rows ≤ n).
+    let counted : length (rows ++ row ∷ []) ≡ length rows + 1 = length-append rows (row ∷ []) in
+    let last : n ≡ length rows = omega (arith, from, within, counted) in
+    let here : row_at (rows ++ row ∷ []) n ≡ row.items = ap (λ k. row_at (rows ++ row ∷ []) k) last ∙ ap numbers_of (slice_get-push_at rows row) in
+    subst (λ (ns : List ℕ). IsRight n ns) (sym here) (subst (λ (k : ℕ). IsRight k row.items) (sym last) is))
+    (cases_lt n (length rows))

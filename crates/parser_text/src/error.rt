@@ -1,0 +1,48 @@
+//! Why a parse table has no arrays.
+ghost use Rattle.std.specs.Prelude.{◌≡◌};
+ghost use Rattle.parser_text.specs.declared.error.ParserTextError.TheVariants.{Memory, Packing};
+
+use packed_tables::error::PackError;
+use std::alloc::{AllocError, AllocFailed};
+use thiserror::Error;
+
+/// Why a parse table has no arrays. `ToFirst` has a state with a shift or a goto to state 0, which
+/// no tables of a construction have. `Unlisted` has a state that reduces by a production that the
+/// table does not list. `TooLarge` means that a number has more than 32 bits.
+#[derive(Debug, Drop, PartialEq, Eq, Error)]
+pub enum ParserTextError {
+    #[error("state {0} has a shift or a goto to state 0")]
+    ToFirst(u32),
+    #[error("state {0} reduces by a production that is not listed")]
+    Unlisted(u32),
+    #[error("a number has more than 32 bits")]
+    TooLarge,
+    #[error("{0}")]
+    Packing(PackError),
+    #[error("out of memory")]
+    Memory,
+}
+
+impl From<AllocError> for ParserTextError {
+    ghost from_gives = { λ _ e. e ≡ Memory };
+
+    fn from(_error: AllocError) -> Self {
+        ParserTextError::Memory
+    }
+}
+
+impl<T: Drop> From<AllocFailed<T>> for ParserTextError {
+    ghost from_gives = { λ _ e. e ≡ Memory };
+
+    fn from(_error: AllocFailed<T>) -> Self {
+        ParserTextError::Memory
+    }
+}
+
+impl From<PackError> for ParserTextError {
+    ghost from_gives = { λ error e. e ≡ Packing error };
+
+    fn from(error: PackError) -> Self {
+        ParserTextError::Packing(error)
+    }
+}
