@@ -1,6 +1,6 @@
 // Packing while each allocation is refused in turn.
 
-use crate::example::{actions, gotos, is_example};
+use crate::arrays::{actions, gotos, is_example};
 use packed_tables::error::PackError;
 use packed_tables::pack::pack;
 use refused_growth::attempts::Attempt;
