@@ -1,1 +1,2 @@
+pub mod CamelTexts
 pub mod UpperTexts

@@ -1,6 +1,6 @@
 //! Kinds of characters.
 ghost use Rattle.std.specs.Prelude.{◌≡◌};
-ghost use Rattle.constant_names.specs.Words.{begins, is_capital, is_letter, is_small};
+ghost use Rattle.constant_names.specs.Words.{begins, has_word, is_capital, is_letter, is_small};
 
 /// Whether a character is a capital letter of ASCII.
 pub(crate) fn is_capital(c: char) -> bool
@@ -34,4 +34,11 @@ pub(crate) fn begins(before: char, c: char) -> bool
         return !is_letter(before);
     }
     true
+}
+
+/// Whether a text has a character other than an underscore.
+pub(crate) fn has_word(name: &str) -> bool
+    ensures { result ≡ has_word name.now }
+{
+    name.chars().any(|c| c != '_')
 }

@@ -2,9 +2,9 @@
 ghost use Rattle.std.specs.Prelude.{◌≡◌, ◌||◌, ◌++◌, OnOk, string_bytes};
 ghost use Rattle.constant_names.specs.Upper.{next_upper, upper_from, upper_letters, upper_text};
 ghost use Rattle.std.specs.Str.{chars};
-ghost use Rattle.constant_names.specs.Words.{has_word, is_word_part};
+ghost use Rattle.constant_names.specs.Words.{is_word_part};
 
-use crate::classes::{begins, is_letter};
+use crate::classes::{begins, has_word, is_letter};
 use crate::signs::push_sign;
 use std::alloc::AllocError;
 
@@ -22,13 +22,6 @@ pub fn push_upper(text: &mut String, name: &str, more: bool) -> Result<(), Alloc
     }
     text.push_str("UNDERSCORE")?;
     Ok(())
-}
-
-// Whether a text has a character other than an underscore.
-fn has_word(name: &str) -> bool
-    ensures { result ≡ has_word name.now }
-{
-    name.chars().any(|c| c != '_')
 }
 
 // Appends the words of a text.

@@ -1,5 +1,6 @@
 // Lines of numbers, fixed texts and names.
 
+use constant_names::camel::push_camel;
 use constant_names::upper::push_upper;
 use file_parts::fixed::push_fixed;
 use file_parts::numbers::push_numbers;
@@ -86,5 +87,24 @@ fn more_words_have_an_underscore_before_them(rt: HostRuntime) -> Result<(), Fail
     push_upper(&mut name, "is", true)?;
     push_upper(&mut name, "_", true)?;
     assert!(rt; name.as_str() == "SUM_IS_UNDERSCORE");
+    Ok(())
+}
+
+// The words of a text that begin with capitals.
+fn camel(alloc: Global, text: &str) -> Result<String, AllocError> {
+    let mut name = String::new(alloc);
+    push_camel(&mut name, text)?;
+    Ok(name)
+}
+
+#[test]
+fn names_in_the_style_of_rust_are_made_of_words(rt: HostRuntime) -> Result<(), Fail> {
+    let alloc = rt.alloc();
+    assert!(rt; camel(alloc, "->")?.as_str() == "MinusGt");
+    assert!(rt; camel(alloc, "ExprList")?.as_str() == "ExprList");
+    assert!(rt; camel(alloc, "_a__b1C")?.as_str() == "AB1C");
+    assert!(rt; camel(alloc, "HTTPServer")?.as_str() == "Httpserver");
+    assert!(rt; camel(alloc, "__")?.as_str() == "Underscore");
+    assert!(rt; camel(alloc, "\u{4e2d}=")?.as_str() == "U4e2dEq");
     Ok(())
 }
