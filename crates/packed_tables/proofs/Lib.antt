@@ -1,2 +1,2 @@
 pub mod RowLemmas
-pub mod Places
+pub mod PlaceLemmas
