@@ -39,6 +39,7 @@ impl PackedTables {
     }
 
     /// The place of the byte that has the bit of a terminal in the set of a state.
+    #[tactic(auto, using(crate::proofs::PlaceLemmas::product_fits, crate::proofs::PlaceLemmas::place_fits))]
     pub(crate) fn set_place(&self, state: u32, terminal: u32) -> usize
         ensures { result ≡ set_place self.now state terminal }
     {
