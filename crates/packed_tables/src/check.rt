@@ -1,5 +1,5 @@
 //! Looks up all actions and gotos in packed arrays.
-ghost use Rattle.std.specs.Prelude.{◌≡◌, ◌<◌, ℕ, ⊥, IsTrue, length, slice_index};
+ghost use Rattle.std.specs.Prelude.{◌≡◌, ◌<◌, ℕ, IsTrue, length, slice_index};
 ghost use Rattle.packed_tables.specs.Packed.{ArePacked, AreRows, HasAction, HasActions, HasGoto, HasGotos, IsUsual, goto_or, row_at};
 
 use crate::lookup::number_at;
