@@ -1,0 +1,10 @@
+//! The text of a parser in C.
+//!
+//! - `file`: what a file has, and its text.
+#![tactic(auto)]
+
+mod arrays;
+mod driver;
+mod enumerations;
+pub mod file;
+mod lookup;
