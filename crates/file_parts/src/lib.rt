@@ -2,7 +2,9 @@
 //!
 //! - `numbers`: the lines of an array of numbers.
 //! - `fixed`: a fixed text in which names have a prefix.
+//! - `parts`: constants and arrays.
 #![tactic(auto)]
 
 pub mod fixed;
 pub mod numbers;
+pub mod parts;

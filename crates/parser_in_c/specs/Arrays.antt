@@ -3,7 +3,7 @@ use Rattle.std.specs.Prelude.{ℕ, nat_lt, if◌then◌else◌, List, ◌++◌, 
 use Rattle.std.specs.Fmt.{decimal}
 use Rattle.std.specs.List.{flat_map, list_all}
 use Rattle.file_parts.specs.Lines.{number_lines}
-use Rattle.parser_in_c.specs.declared.file.Array.{Array}
+use Rattle.file_parts.specs.declared.parts.Array.{Array}
 
 -- the bits of the smallest cells that hold all numbers
 abbrev pub bits_text : List ℕ → List ℕ

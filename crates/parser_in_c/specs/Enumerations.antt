@@ -5,7 +5,7 @@ use Rattle.std.specs.Fmt.{decimal}
 use Rattle.std.specs.List.{flat_map}
 use Rattle.file_parts.specs.Fixed.{fixed_text}
 use Rattle.parser_in_c.specs.declared.file.CFile.{CFile}
-use Rattle.parser_in_c.specs.declared.file.Constant.{Constant}
+use Rattle.file_parts.specs.declared.parts.Constant.{Constant}
 
 -- the line of a constant: its name after the prefix and the letter of its kind, and its comment
 abbrev pub member_line : List ℕ → List ℕ → List ℕ → Constant → List ℕ

@@ -3,8 +3,8 @@ ghost use Rattle.std.specs.Prelude.{◌≡◌, ◌++◌, OnOk, string_bytes};
 ghost use Rattle.std.specs.List.{flat_map};
 ghost use Rattle.parser_in_c.specs.Arrays.{array_type, array_value, bits_text, tables_text};
 
-use crate::file::Array;
 use file_parts::numbers::push_numbers;
+use file_parts::parts::Array;
 use std::alloc::{AllocError, Global};
 use std::fmt::Write;
 

@@ -3,8 +3,9 @@ ghost use Rattle.std.specs.Prelude.{◌≡◌, ◌++◌, List, OnOk, string_byte
 ghost use Rattle.std.specs.List.{flat_map};
 ghost use Rattle.parser_in_c.specs.Enumerations.{counts_text, enumeration_text, literal_line, literals_text, member_line, members_text};
 
-use crate::file::{CFile, Constant};
+use crate::file::CFile;
 use file_parts::fixed::push_fixed;
+use file_parts::parts::Constant;
 use std::alloc::AllocError;
 use std::fmt::Write;
 

@@ -9,24 +9,10 @@ use crate::driver::DRIVER;
 use crate::enumerations::{push_counts, push_enumeration, push_literals};
 use crate::lookup::{INTERFACE, LOOKUP};
 use file_parts::fixed::push_fixed;
+use file_parts::parts::{Array, Constant};
 use std::alloc::{AllocError, Global};
 
-/// A constant: its name without the prefix, and its comment.
-#[derive(Debug, Drop)]
-pub struct Constant {
-    pub name: String,
-    pub comment: String,
-}
-
-/// An array of numbers.
-#[derive(Debug, Drop)]
-pub struct Array {
-    pub name: String,
-    pub comment: String,
-    pub numbers: Vec<u32>,
-}
-
-/// What a file for C has. The last terminal is the end of the input.
+/// What a file for C has. Names have no prefix. The last terminal is the end of the input.
 #[derive(Debug, Drop)]
 pub struct CFile {
     /// The comment at the top, with the line ends.

@@ -1,0 +1,4 @@
+pub mod Arrays
+pub mod Enumerations
+pub mod File
+pub mod Lists

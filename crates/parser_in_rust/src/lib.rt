@@ -1,0 +1,11 @@
+//! The text of a parser in Rust.
+//!
+//! - `file`: what a file has, and its text.
+#![tactic(auto)]
+
+mod arrays;
+mod driver;
+mod enumerations;
+pub mod file;
+mod interface;
+mod lists;
