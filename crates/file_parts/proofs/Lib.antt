@@ -1,1 +1,2 @@
 pub mod FixedTexts
+pub mod Loops

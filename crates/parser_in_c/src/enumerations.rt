@@ -112,9 +112,18 @@ fn push_literal_lines(text: &mut String, literals: &[String]) -> Result<(), Allo
         string_bytes text.old ++ flat_map literal_line literals.now) }
 {
     for literal in literals {
-        text.push_str("    ")?;
-        text.push_str(literal)?;
-        text.push_str(",\n")?;
+        push_literal(text, literal)?;
     }
+    Ok(())
+}
+
+// Appends the line of a literal.
+fn push_literal(text: &mut String, literal: &String) -> Result<(), AllocError>
+    ensures { OnOk result (string_bytes text.new ≡
+        string_bytes text.old ++ literal_line literal.now) }
+{
+    text.push_str("    ")?;
+    text.push_str(literal)?;
+    text.push_str(",\n")?;
     Ok(())
 }

@@ -1,0 +1,6 @@
+use Rattle.file_parts.proofs.Loops.{one_more}
+use Rattle.parser_in_rust.specs.Lists.{member_line}
+use Rattle.parser_in_rust.proofs.lists.push_member_lines.Goals as goal
+
+pub loop-constant-preserved : goal.loop-constant-preserved
+loop-constant-preserved c = one_more (member_line c.args.kind.now) c.args.constants.now c.loop-constant.constant-index c.constant-item.result _ _ _ c.loop-constant-test.true c.constant-item.is c.loop-constant.invariant c.in_ok-push_member.ensures
