@@ -3,7 +3,6 @@ ghost use Rattle.std.specs.Prelude.{◌≡◌, ◌++◌, OnOk, string_bytes};
 ghost use Rattle.constant_names.specs.Signs.{high_sign, low_sign, middle_sign, sign_word, upper_sign};
 
 use std::alloc::AllocError;
-use std::fmt::Write;
 
 /// Appends the word of a sign in capitals. A sign of ASCII has a word, and any other character has
 /// `U` and its number in hexadecimal. An error is an allocation failure.

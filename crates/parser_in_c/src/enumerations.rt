@@ -7,7 +7,6 @@ use crate::file::CFile;
 use file_parts::fixed::push_fixed;
 use file_parts::parts::Constant;
 use std::alloc::AllocError;
-use std::fmt::Write;
 
 /// Appends an enumeration of constants.
 pub(crate) fn push_enumeration(

@@ -5,7 +5,6 @@ ghost use Rattle.parser_in_python.specs.Classes.{classes_text, member_line, memb
 use crate::file::PythonFile;
 use file_parts::parts::Constant;
 use std::alloc::AllocError;
-use std::fmt::Write;
 
 /// The lines before the terminals.
 pub(crate) const BEFORE_TERMINALS: &str = r##"

@@ -7,7 +7,6 @@ use crate::file::PythonFile;
 use file_parts::numbers::push_numbers;
 use file_parts::parts::Array;
 use std::alloc::{AllocError, Global};
-use std::fmt::Write;
 
 /// The lines before the texts of terminals.
 pub(crate) const BEFORE_TERMINAL_TEXTS: &str = r##"# fmt: off

@@ -6,7 +6,6 @@ ghost use Rattle.parser_in_rust.specs.Arrays.{array_type, array_value, bits_text
 use file_parts::numbers::push_numbers;
 use file_parts::parts::Array;
 use std::alloc::{AllocError, Global};
-use std::fmt::Write;
 
 /// Appends the arrays as one value.
 pub(crate) fn push_tables(

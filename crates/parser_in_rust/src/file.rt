@@ -9,7 +9,6 @@ use crate::interface::{INTERFACE, LOOKUP};
 use crate::lists::{push_literals, push_members};
 use file_parts::parts::{Array, Constant};
 use std::alloc::{AllocError, Global};
-use std::fmt::Write;
 
 /// The lines before the enumerations.
 pub(crate) const HEAD: &str = r##"

@@ -5,7 +5,6 @@ ghost use Rattle.parser_in_rust.specs.Lists.{list_head, literal_line, literals_t
 
 use file_parts::parts::Constant;
 use std::alloc::AllocError;
-use std::fmt::Write;
 
 /// Appends the list of all constants of a kind.
 pub(crate) fn push_members(
