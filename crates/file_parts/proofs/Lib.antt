@@ -1,2 +1,1 @@
-pub mod FixedTexts
 pub mod Loops

@@ -1,5 +1,5 @@
 //! The lines of an array of numbers.
-ghost use Rattle.std.specs.Prelude.{◌≡◌, ◌++◌, IfOk, OnOk, length, string_bytes};
+ghost use Rattle.std.specs.Prelude.{◌≡◌, ◌+◌, ◌++◌, IfOk, OnOk, length, string_bytes};
 ghost use Rattle.file_parts.specs.Lines.{fits, next_column, next_text, number_lines, rest_of, word_of};
 
 use std::alloc::{AllocError, Global};
