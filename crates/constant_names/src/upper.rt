@@ -1,8 +1,8 @@
 //! The words of a text in capitals, with underscores between them.
-ghost use Rattle.std.specs.Prelude.{◌≡◌, ◌||◌, ◌++◌, OnOk, string_bytes};
-ghost use Rattle.constant_names.specs.Upper.{next_upper, upper_from, upper_letters, upper_text};
+ghost use Rattle.std.specs.Prelude.{◌≡◌, ◌&&◌, ◌||◌, ◌++◌, OnOk, string_bytes};
+ghost use Rattle.constant_names.specs.Upper.{next_upper, separator, upper_from, upper_letters, upper_text};
 ghost use Rattle.std.specs.Str.{chars};
-ghost use Rattle.constant_names.specs.Words.{is_word_part};
+ghost use Rattle.constant_names.specs.Words.{begins, is_word_part};
 
 use crate::classes::{begins, has_word, is_letter};
 use crate::signs::push_sign;
@@ -54,10 +54,23 @@ fn push_next(text: &mut String, before: char, more: bool, c: char) -> Result<(),
     if c == '_' {
         return Ok(());
     }
-    if more && begins(before, c) {
-        text.push_str("_")?;
-    }
+    push_separator(text, before, more, c)?;
     push_letters(text, c)
+}
+
+// Appends an underscore if a character begins a word that comes after others.
+fn push_separator(text: &mut String, before: char, more: bool, c: char) -> Result<(), AllocError>
+    ensures { OnOk result (string_bytes text.new ≡
+        string_bytes text.old ++ separator (more && begins before c)) }
+{
+    if !more {
+        return Ok(());
+    }
+    if !begins(before, c) {
+        return Ok(());
+    }
+    text.push_str("_")?;
+    Ok(())
 }
 
 // Appends the letters that a character other than an underscore gives to a name.
