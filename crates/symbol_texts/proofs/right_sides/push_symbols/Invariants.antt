@@ -1,0 +1,7 @@
+use Rattle.std.proofs.Common.{◌≡◌, ◌++◌, string_bytes, take}
+use Rattle.std.specs.List.{flat_map}
+use Rattle.symbol_texts.specs.Names.{symbol_words}
+use Rattle.symbol_texts.proofs.right_sides.push_symbols.Given as goal
+
+abbrev pub invariant-loop-symbol : goal.invariant-loop-symbol
+invariant-loop-symbol l = string_bytes l.text ≡ string_bytes l.fn.text ++ flat_map (symbol_words l.style) (take l.symbol-index l.symbols)

@@ -1,0 +1,9 @@
+pub mod Comments
+pub mod Constants
+pub mod Differ
+pub mod Distinct
+pub mod Heading
+pub mod Laws
+pub mod Names
+pub mod Style
+pub mod Texts
