@@ -1,5 +1,5 @@
 -- The constants of a file for C, and the texts of symbols.
-use Rattle.std.specs.Prelude.{ℕ, List, [], ◌∷◌, ◌++◌, codes, String, string_bytes, vec_len}
+use Rattle.std.specs.Prelude.{ℕ, ◌==◌, if◌then◌else◌, List, [], ◌∷◌, ◌++◌, codes, length, String, string_bytes, vec_len}
 use Rattle.std.specs.declared.alloc.Global.{Global}
 use Rattle.std.specs.Fmt.{decimal}
 use Rattle.std.specs.List.{flat_map}
@@ -11,11 +11,14 @@ use Rattle.file_parts.specs.declared.parts.Constant.{Constant}
 abbrev pub member_line : List ℕ → List ℕ → List ℕ → Constant → List ℕ
 member_line big letter comma c = codes "    " ++ (big ++ (letter ++ (string_bytes c.name ++ (comma ++ (codes " // " ++ (string_bytes c.comment ++ codes "\n"))))))
 
+-- the comma before further constants, or nothing if there are none
+abbrev pub comma_before : List Constant → List ℕ
+comma_before rest = if length rest == 0 then [] else codes ","
+
 -- the lines of constants, with a comma after each but the last
 abbrev pub members_text : List ℕ → List ℕ → List Constant → List ℕ
 members_text big letter [] = []
-members_text big letter (c ∷ []) = member_line big letter [] c
-members_text big letter (c ∷ (d ∷ rest)) = member_line big letter (codes ",") c ++ members_text big letter (d ∷ rest)
+members_text big letter (c ∷ rest) = member_line big letter (comma_before rest) c ++ members_text big letter rest
 
 -- an enumeration of constants
 abbrev pub enumeration_text : CFile → List ℕ → List ℕ → List Constant → List ℕ

@@ -1,3 +1,5 @@
 pub mod Arrays
 pub mod Enumerations
 pub mod File
+pub mod Literals
+pub mod Parts

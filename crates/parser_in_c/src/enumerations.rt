@@ -1,7 +1,7 @@
 //! The constants of a file for C, and the texts of symbols.
 ghost use Rattle.std.specs.Prelude.{◌≡◌, ◌++◌, List, OnOk, string_bytes};
 ghost use Rattle.std.specs.List.{flat_map};
-ghost use Rattle.parser_in_c.specs.Enumerations.{counts_text, enumeration_text, literal_line, literals_text, member_line, members_text};
+ghost use Rattle.parser_in_c.specs.Enumerations.{comma_before, counts_text, enumeration_text, literal_line, literals_text, member_line, members_text};
 
 use crate::file::CFile;
 use file_parts::fixed::push_fixed;
@@ -38,13 +38,18 @@ fn push_members(
     ensures { OnOk result (string_bytes text.new ≡
         string_bytes text.old ++ members_text big.now letter.now constants.now) }
 {
-    let [others @ .., last] = constants else {
-        return Ok(());
-    };
-    for constant in others {
-        push_member(text, big, letter, constant, ",")?;
+    for (number, constant) in constants.iter().enumerate() {
+        let comma = comma_before(&constants[number + 1..]);
+        push_member(text, big, letter, constant, comma)?;
     }
-    push_member(text, big, letter, last, "")
+    Ok(())
+}
+
+// The comma before further constants, or nothing if there are none.
+fn comma_before(rest: &[Constant]) -> &'static str
+    ensures { result.now ≡ comma_before rest.now }
+{
+    if rest.is_empty() { "" } else { "," }
 }
 
 // Appends the line of a constant.

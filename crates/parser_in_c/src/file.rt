@@ -69,5 +69,6 @@ fn push_constants(text: &mut String, file: &CFile) -> Result<(), AllocError>
         "nonterminal_texts",
         "the name of a nonterminal",
         &file.nonterminal_literals,
-    )
+    )?;
+    Ok(())
 }

@@ -1,8 +1,7 @@
-use Rattle.std.proofs.Common.{◌≡◌, ◌++◌, codes, string_bytes, take}
-use Rattle.std.specs.List.{flat_map}
-use Rattle.parser_in_c.specs.Enumerations.{member_line}
+use Rattle.std.proofs.Common.{◌≡◌, ◌++◌, drop, string_bytes}
+use Rattle.parser_in_c.specs.Enumerations.{members_text}
 use Rattle.parser_in_c.proofs.enumerations.push_members.Given as goal
 
--- the lines of the constants so far, each with a comma
-abbrev pub invariant-loop-constant : goal.invariant-loop-constant
-invariant-loop-constant l = string_bytes l.text ≡ string_bytes l.fn.text ++ flat_map (member_line l.big l.letter (codes ",")) (take l.constant-index l.others)
+-- the text so far and the lines of the rest are those of all
+abbrev pub invariant-loop-number : goal.invariant-loop-number
+invariant-loop-number l = string_bytes l.text ++ members_text l.big l.letter (drop l.number l.constants) ≡ string_bytes l.fn.text ++ members_text l.big l.letter l.constants
