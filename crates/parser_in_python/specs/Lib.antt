@@ -1,3 +1,5 @@
 pub mod Classes
 pub mod File
+pub mod Literals
+pub mod Parts
 pub mod Tables
