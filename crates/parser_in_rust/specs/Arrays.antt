@@ -1,13 +1,10 @@
 -- The arrays of a file for Rust, which are one value.
-use Rattle.std.specs.Prelude.{ℕ, nat_lt, if◌then◌else◌, List, ◌++◌, codes, length, string_bytes}
+use Rattle.std.specs.Prelude.{ℕ, List, ◌++◌, codes, length, string_bytes}
 use Rattle.std.specs.Fmt.{decimal}
-use Rattle.std.specs.List.{flat_map, list_all}
+use Rattle.std.specs.List.{flat_map}
+use Rattle.file_parts.specs.Bits.{bits_text}
 use Rattle.file_parts.specs.Lines.{number_lines}
 use Rattle.file_parts.specs.declared.parts.Array.{Array}
-
--- the bits of the smallest cells that hold all numbers
-abbrev pub bits_text : List ℕ → List ℕ
-bits_text numbers = if list_all (λ n. nat_lt n 256) numbers then codes "8" else if list_all (λ n. nat_lt n 65536) numbers then codes "16" else codes "32"
 
 -- the comment and the type of an array
 abbrev pub array_type : Array → List ℕ

@@ -1,8 +1,9 @@
 //! The arrays of a file for Rust, which are one value.
 ghost use Rattle.std.specs.Prelude.{◌≡◌, ◌++◌, OnOk, string_bytes};
 ghost use Rattle.std.specs.List.{flat_map};
-ghost use Rattle.parser_in_rust.specs.Arrays.{array_type, array_value, bits_text, tables_text};
+ghost use Rattle.parser_in_rust.specs.Arrays.{array_type, array_value, tables_text};
 
+use file_parts::bits::bits_of;
 use file_parts::numbers::push_numbers;
 use file_parts::parts::Array;
 use std::alloc::{AllocError, Global};
@@ -46,19 +47,6 @@ fn push_type(text: &mut String, array: &Array) -> Result<(), AllocError>
     text.push_str(bits_of(&array.numbers))?;
     write!(text, "; {}],\n", array.numbers.len())?;
     Ok(())
-}
-
-// The bits of the smallest cells that hold all numbers.
-fn bits_of(numbers: &[u32]) -> &'static str
-    ensures { result.now ≡ bits_text numbers.now }
-{
-    if numbers.iter().all(|number| *number < 256) {
-        return "8";
-    }
-    if numbers.iter().all(|number| *number < 65_536) {
-        return "16";
-    }
-    "32"
 }
 
 // Appends the values of arrays.

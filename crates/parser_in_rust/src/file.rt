@@ -71,5 +71,6 @@ fn push_constants(text: &mut String, file: &RustFile) -> Result<(), AllocError>
     push_members(text, "the nonterminals", "NONTERMINALS", "Nonterminal", &file.nonterminals)?;
     push_members(text, "the productions", "PRODUCTIONS", "Production", &file.productions)?;
     push_literals(text, "the text of a terminal", "TERMINAL_TEXTS", &file.terminal_literals)?;
-    push_literals(text, "the name of a nonterminal", "NONTERMINAL_TEXTS", &file.nonterminal_literals)
+    push_literals(text, "the name of a nonterminal", "NONTERMINAL_TEXTS", &file.nonterminal_literals)?;
+    Ok(())
 }
