@@ -1,2 +1,6 @@
 pub mod Arrays
+pub mod FileArrays
+pub mod Parsers
 pub mod Rows
+pub mod Sides
+pub mod Texts

@@ -47,13 +47,15 @@ fn code_of(table: &ParseTable, state: u32, bit: u32) -> Result<u32, ParserTextEr
             if production as usize >= productions {
                 return Err(ParserTextError::Unlisted(state));
             }
-            small(production as usize + 1)
+            let code = small(production as usize + 1)?;
+            Ok(code)
         }
         TableAction::Shift(target) => {
             if target == 0 {
                 return Err(ParserTextError::ToFirst(state));
             }
-            small(productions + 1 + target as usize)
+            let code = small(productions + 1 + target as usize)?;
+            Ok(code)
         }
     }
 }

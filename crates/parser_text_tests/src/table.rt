@@ -13,7 +13,7 @@ use std::test::Fail;
 use test_fixtures::texts::{CROSSED, ONE, SUMS, grammar};
 
 // A number of 32 bits. The numbers here are small.
-fn small(number: usize) -> u32 {
+pub(crate) fn small(number: usize) -> u32 {
     match u32::try_from(number) {
         Ok(number) => number,
         Err(_) => u32::MAX,

@@ -1,0 +1,4 @@
+use Rattle.parser_text.proofs.python.python_parser.Goals as goal
+
+pub returns : goal.returns
+returns c = ?
