@@ -6,12 +6,7 @@ use std::alloc::AllocError;
 
 /// Appends a fixed text. The prefix of names in small letters is in the place of each `@`, and that
 /// of names in capitals in the place of each `$`. An error is an allocation failure.
-pub fn push_fixed(
-    text: &mut String,
-    fixed: &str,
-    small: &str,
-    big: &str,
-) -> Result<(), AllocError>
+pub fn push_fixed(text: &mut String, fixed: &str, small: &str, big: &str) -> Result<(), AllocError>
     ensures { OnOk result (string_bytes text.new ≡
         string_bytes text.old ++ fixed_text small.now big.now fixed.now) }
 {

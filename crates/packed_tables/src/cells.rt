@@ -42,7 +42,11 @@ fn grow(words: &mut Vec<u64>, number: usize) -> Result<(), PackError>
 
 /// The word with a number, or 0 after the last one.
 pub(crate) fn word_at(words: &[u64], number: usize) -> u64 {
-    if number < words.len() { words[number] } else { 0 }
+    if number < words.len() {
+        words[number]
+    } else {
+        0
+    }
 }
 
 /// The 64 bits from a place on.

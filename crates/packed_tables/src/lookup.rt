@@ -61,7 +61,11 @@ impl PackedRows {
 pub(crate) fn number_at(numbers: &[u32], place: usize) -> u32
     ensures { result ≡ slice_index numbers.now place }
 {
-    if place < numbers.len() { numbers[place] } else { 0 }
+    if place < numbers.len() {
+        numbers[place]
+    } else {
+        0
+    }
 }
 
 // The byte at a place, or 0 after the last one.

@@ -2,8 +2,8 @@
 ghost use Rattle.std.specs.Prelude.{IfOk};
 ghost use Rattle.packed_tables.specs.Packed.{ArePacked};
 
-use crate::check::are_packed;
 use crate::cells::{small, width_of};
+use crate::check::are_packed;
 use crate::error::PackError;
 use crate::lookup::number_at;
 use crate::packed::{PackedRows, PackedTables};

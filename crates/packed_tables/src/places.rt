@@ -17,10 +17,7 @@ struct Places {
 /// Where each row begins, of which the columns and the numbers are given. Rows with more cells come
 /// first. A row begins at the first place at which no other row begins, and from which on its cells
 /// are free. The places are in the order of the rows.
-pub(crate) fn starts_of(
-    alloc: Global,
-    rows: &[Vec<(u32, u32)>],
-) -> Result<Vec<usize>, PackError> {
+pub(crate) fn starts_of(alloc: Global, rows: &[Vec<(u32, u32)>]) -> Result<Vec<usize>, PackError> {
     let order = longest_first(alloc, rows)?;
     let mut starts = Vec::new(alloc);
     starts.resize(rows.len(), 0)?;

@@ -64,7 +64,11 @@ impl DistinctRows {
     fn starts_of_states(&self, starts: &[usize]) -> Result<Vec<u32>, PackError> {
         let mut row = Vec::new(self.alloc);
         for number in &self.of_states {
-            let start = if *number < starts.len() { starts[*number] } else { 0 };
+            let start = if *number < starts.len() {
+                starts[*number]
+            } else {
+                0
+            };
             row.push(small(start)?)?;
         }
         Ok(row)

@@ -1,7 +1,8 @@
 //! The driver for C.
 
 /// A run and its steps. It is the same in each file, but for the prefixes of names.
-pub(crate) const DRIVER: &str = r##"// A place of the stack: a state, and the position at which the symbol after it begins.
+pub(crate) const DRIVER: &str =
+    r##"// A place of the stack: a state, and the position at which the symbol after it begins.
 typedef struct {
     size_t first;
     uint32_t state;

@@ -62,7 +62,13 @@ fn push_constants(text: &mut String, file: &CFile) -> Result<(), AllocError>
     push_enumeration(text, file, "nonterminal", "N_", &file.nonterminals)?;
     push_enumeration(text, file, "production", "P_", &file.productions)?;
     push_counts(text, file)?;
-    push_literals(text, file, "terminal_texts", "the text of a terminal", &file.terminal_literals)?;
+    push_literals(
+        text,
+        file,
+        "terminal_texts",
+        "the text of a terminal",
+        &file.terminal_literals,
+    )?;
     push_literals(
         text,
         file,

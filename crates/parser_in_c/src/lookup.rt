@@ -1,7 +1,8 @@
 //! The lookups for C, and the functions for texts and sides.
 
 /// The lookup of an action and of a goto.
-pub(crate) const LOOKUP: &str = r##"// The action of a state on a terminal: 0 refuses it, a number up to $PRODUCTIONS reduces by the
+pub(crate) const LOOKUP: &str =
+    r##"// The action of a state on a terminal: 0 refuses it, a number up to $PRODUCTIONS reduces by the
 // production before it, and a larger one shifts. A shift to state 0 accepts the input.
 static inline uint32_t @action_of(uint32_t state, uint32_t terminal)
 {

@@ -1,7 +1,8 @@
 //! The driver for Rust.
 
 /// A run on a stack, and the parse of all terminals.
-pub(crate) const DRIVER: &str = r##"/// A state of the stack, and the position at which the symbol after it begins.
+pub(crate) const DRIVER: &str =
+    r##"/// A state of the stack, and the position at which the symbol after it begins.
 #[derive(Clone, Copy, Debug)]
 struct Entry(usize, usize);
 

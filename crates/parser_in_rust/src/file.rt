@@ -64,13 +64,46 @@ fn push_constants(text: &mut String, file: &RustFile) -> Result<(), AllocError>
     ensures { OnOk result (string_bytes text.new ≡
         string_bytes text.old ++ constants_text file.now) }
 {
-    push_enumeration(text, "A terminal, or the end of the input.", "Terminal", &file.terminals)?;
+    push_enumeration(
+        text,
+        "A terminal, or the end of the input.",
+        "Terminal",
+        &file.terminals,
+    )?;
     push_enumeration(text, "A nonterminal.", "Nonterminal", &file.nonterminals)?;
     push_enumeration(text, "A production.", "Production", &file.productions)?;
-    push_members(text, "the terminals", "TERMINALS", "Terminal", &file.terminals)?;
-    push_members(text, "the nonterminals", "NONTERMINALS", "Nonterminal", &file.nonterminals)?;
-    push_members(text, "the productions", "PRODUCTIONS", "Production", &file.productions)?;
-    push_literals(text, "the text of a terminal", "TERMINAL_TEXTS", &file.terminal_literals)?;
-    push_literals(text, "the name of a nonterminal", "NONTERMINAL_TEXTS", &file.nonterminal_literals)?;
+    push_members(
+        text,
+        "the terminals",
+        "TERMINALS",
+        "Terminal",
+        &file.terminals,
+    )?;
+    push_members(
+        text,
+        "the nonterminals",
+        "NONTERMINALS",
+        "Nonterminal",
+        &file.nonterminals,
+    )?;
+    push_members(
+        text,
+        "the productions",
+        "PRODUCTIONS",
+        "Production",
+        &file.productions,
+    )?;
+    push_literals(
+        text,
+        "the text of a terminal",
+        "TERMINAL_TEXTS",
+        &file.terminal_literals,
+    )?;
+    push_literals(
+        text,
+        "the name of a nonterminal",
+        "NONTERMINAL_TEXTS",
+        &file.nonterminal_literals,
+    )?;
     Ok(())
 }

@@ -1,7 +1,8 @@
 //! The interface and the lookups for Rust.
 
 /// The lookup of an action and of a goto.
-pub(crate) const LOOKUP: &str = r##"/// The action of a state on a terminal: 0 refuses it, a number up to that of productions reduces by
+pub(crate) const LOOKUP: &str =
+    r##"/// The action of a state on a terminal: 0 refuses it, a number up to that of productions reduces by
 /// the production before it, and a larger one shifts. A shift to state 0 accepts the input.
 fn action_of(state: usize, terminal: usize) -> usize {
     let place = TABLES.row[state] as usize + terminal;

@@ -57,9 +57,9 @@ module _ (p : PackedTables) (t : ParseTable) (count : ℕ) (actions gotos : List
   none_are states is number name at none state l =
       let few = slice_get_within t.nonterminals number name at in
       let zero : (s : ℕ) → slice_index (row_at gotos s) number ≡ 0 = λ s. ⊎_elim
-          (λ (before : s < count). number_is states is s number name before at ∙ ap target_number (none s before))
-          (λ (past : count ≤ s). ap (λ o. slice_index (numbers_of o) number) (slice_get_past gotos s (omega (arith, past, all_gotos))))
-          (cases_lt s count) in
+      (λ (before : s < count). number_is states is s number name before at ∙ ap target_number (none s before))
+      (λ (past : count ≤ s). ap (λ o. slice_index (numbers_of o) number) (slice_get_past gotos s (omega (arith, past, all_gotos))))
+      (cases_lt s count) in
       let usual : slice_index p.goto_usual.items number ≡ 0 = packed.usual number zero in
       found state number l few ∙ ap (λ n. goto_or n (slice_index p.goto_usual.items number)) (zero state) ∙ usual
 

@@ -39,7 +39,14 @@ fn push_cells(
     let row = "where the row of a state begins in the next two arrays";
     push(alloc, capitals, arrays, "row", row, &packed.actions.row)?;
     let column = "the terminal to which a cell belongs";
-    push(alloc, capitals, arrays, "column", column, &packed.actions.column)?;
+    push(
+        alloc,
+        capitals,
+        arrays,
+        "column",
+        column,
+        &packed.actions.column,
+    )?;
     let cell = "the action in a cell";
     push(alloc, capitals, arrays, "cell", cell, &packed.actions.cell)
 }
@@ -55,7 +62,14 @@ fn push_reductions(
         parts_of arrays.old.items ++ reduction_arrays capitals packed.now) }
 {
     let reduction = "the usual reduction of a state, as an action, or 0";
-    push(alloc, capitals, arrays, "reduction", reduction, &packed.reduction)?;
+    push(
+        alloc,
+        capitals,
+        arrays,
+        "reduction",
+        reduction,
+        &packed.reduction,
+    )?;
     let set = "the set of the terminals on which a state makes its usual reduction";
     push(alloc, capitals, arrays, "set", set, &packed.set)?;
     let numbers = numbers_of(alloc, &packed.sets)?;
@@ -76,11 +90,32 @@ fn push_gotos(
     let row = "where the row of a state begins in the next two arrays";
     push(alloc, capitals, arrays, "goto_row", row, &packed.gotos.row)?;
     let column = "the nonterminal to which a cell belongs";
-    push(alloc, capitals, arrays, "goto_column", column, &packed.gotos.column)?;
+    push(
+        alloc,
+        capitals,
+        arrays,
+        "goto_column",
+        column,
+        &packed.gotos.column,
+    )?;
     let cell = "the state to which a goto leads";
-    push(alloc, capitals, arrays, "goto_cell", cell, &packed.gotos.cell)?;
+    push(
+        alloc,
+        capitals,
+        arrays,
+        "goto_cell",
+        cell,
+        &packed.gotos.cell,
+    )?;
     let usual = "where the gotos on a nonterminal lead in most states";
-    push(alloc, capitals, arrays, "goto_usual", usual, &packed.goto_usual)
+    push(
+        alloc,
+        capitals,
+        arrays,
+        "goto_usual",
+        usual,
+        &packed.goto_usual,
+    )
 }
 
 // Appends the arrays of the sides of productions.
@@ -94,7 +129,14 @@ fn push_sides(
     ensures { OnOk result (parts_of arrays.new.items ≡
         parts_of arrays.old.items ++ side_arrays capitals left.now lengths.now) }
 {
-    push(alloc, capitals, arrays, "left", "the nonterminal of a production", left)?;
+    push(
+        alloc,
+        capitals,
+        arrays,
+        "left",
+        "the nonterminal of a production",
+        left,
+    )?;
     let length = "how many symbols the right side of a production has";
     push(alloc, capitals, arrays, "length", length, lengths)
 }

@@ -35,12 +35,7 @@ pub fn rust_parser(
 }
 
 // The comment at the top.
-fn rust_heading(
-    alloc: Global,
-    start: &str,
-    method: &str,
-    states: u32,
-) -> Result<String, AllocError>
+fn rust_heading(alloc: Global, start: &str, method: &str, states: u32) -> Result<String, AllocError>
     ensures { IfOk result (λ text. string_bytes text ≡
         rust_heading start.now method.now states) }
 {

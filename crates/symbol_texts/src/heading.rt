@@ -19,12 +19,16 @@ pub fn push_heading(
         start.now method.now states usage.now) }
 {
     text.push_str(sign)?;
-    text.push_str(" A parser by LR(1) tables, made by a script from the data of lrshow. Do not edit it.\n")?;
+    text.push_str(
+        " A parser by LR(1) tables, made by a script from the data of lrshow. Do not edit it.\n",
+    )?;
     text.push_str(sign)?;
     text.push_str("\n")?;
     push_about(text, sign, start, method, states)?;
     text.push_str(sign)?;
-    text.push_str(" The tables are exact: a state has an action on a terminal only if the LR(1) tables have one.\n")?;
+    text.push_str(
+        " The tables are exact: a state has an action on a terminal only if the LR(1) tables have one.\n",
+    )?;
     text.push_str(sign)?;
     text.push_str(" ")?;
     text.push_str(usage)?;

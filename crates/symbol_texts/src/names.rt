@@ -59,11 +59,7 @@ pub fn production_names(
 }
 
 // The names of symbols, some of which may be the same.
-fn symbol_bases(
-    alloc: Global,
-    style: Style,
-    symbols: &[String],
-) -> Result<Vec<String>, AllocError>
+fn symbol_bases(alloc: Global, style: Style, symbols: &[String]) -> Result<Vec<String>, AllocError>
     ensures { IfOk result (λ names. texts_of names.items ≡
         map (symbol_name style) (texts_of symbols.now)) }
 {

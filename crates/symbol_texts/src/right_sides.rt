@@ -26,7 +26,11 @@ pub(crate) fn push_right(
 fn first_symbols(symbols: &[SymbolText]) -> &[SymbolText]
     ensures { result.now ≡ take 6 symbols.now }
 {
-    if symbols.len() <= 6 { symbols } else { &symbols[..6] }
+    if symbols.len() <= 6 {
+        symbols
+    } else {
+        &symbols[..6]
+    }
 }
 
 // Appends the words of symbols.

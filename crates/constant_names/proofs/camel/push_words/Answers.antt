@@ -17,9 +17,9 @@ loop-c-preserved c =
     let added = next_camel c.loop-c.before it in (
       IsUtf8-past_char before after it text came,
       ap (λ t. t ++ camel_from it (chars after)) c.in_ok-push_next.ensures
-      ∙ append_assoc _ added _
-      ∙ ap (λ t. string_bytes c.loop-c.text ++ t) (sym (camel_more c.loop-c.before before after it text came))
-      ∙ c.loop-c.invariant.1,
+          ∙ append_assoc _ added _
+          ∙ ap (λ t. string_bytes c.loop-c.text ++ t) (sym (camel_more c.loop-c.before before after it text came))
+          ∙ c.loop-c.invariant.1,
     )
 
 pub returns : goal.returns

@@ -19,10 +19,10 @@ loop-c-preserved c =
     let added = next_upper c.loop-c.before more it in (
       IsUtf8-past_char before after it text came,
       ap (λ t. t ++ upper_from it c.has_begun-more.result (chars after)) c.in_ok-push_next.ensures
-      ∙ append_assoc _ added _
-      ∙ ap (λ (m : Bool). string_bytes c.loop-c.text ++ (added ++ upper_from it m (chars after))) c.has_begun-more.ensures
-      ∙ ap (λ t. string_bytes c.loop-c.text ++ t) (sym (upper_more c.loop-c.before more before after it text came))
-      ∙ c.loop-c.invariant.1,
+          ∙ append_assoc _ added _
+          ∙ ap (λ (m : Bool). string_bytes c.loop-c.text ++ (added ++ upper_from it m (chars after))) c.has_begun-more.ensures
+          ∙ ap (λ t. string_bytes c.loop-c.text ++ t) (sym (upper_more c.loop-c.before more before after it text came))
+          ∙ c.loop-c.invariant.1,
     )
 
 pub returns : goal.returns

@@ -12,6 +12,6 @@ pub returns-in-Some : goal.returns-in-Some
 returns-in-Some c = record {
   is = λ states is name at. ap target_number (c.in-Some.ensures states is name at);
   some = λ states is name at e.
-    let same : Some c.in-Some.target ≡ Some 0 = c.in-Some.ensures states is name at ∙ e in
-    c.if-target-eq0.false (cc same);
+      let same : Some c.in-Some.target ≡ Some 0 = c.in-Some.ensures states is name at ∙ e in
+      c.if-target-eq0.false (cc same);
 }

@@ -17,7 +17,7 @@ returns c =
       lengths = lengths;
       right_lengths = c.in_ok-lengths.ensures;
       listed = c.in_ok-file_arrays.ensures
-      ∙ ap (λ (x : List ℕ). file_arrays capitals packed x c.deref-2.result.now) c.deref.ensures.value
-      ∙ ap (λ (y : List ℕ). file_arrays capitals packed left y) c.deref-2.ensures.value;
+          ∙ ap (λ (x : List ℕ). file_arrays capitals packed x c.deref-2.result.now) c.deref.ensures.value
+          ∙ ap (λ (y : List ℕ). file_arrays capitals packed left y) c.deref-2.ensures.value;
       bytes = refl;
     }

@@ -13,7 +13,7 @@ loop-other-preserved c =
     let one : cond same 1 0 ≤ 1 = at_most_1 same in
     record {
       is = ap (λ n. c.loop-other.count + n) c.one_if_same-count.ensures
-      ∙ ap (λ n. n + cond same 1 0) c.loop-other.invariant.is
-      ∙ sym (occurs_more text c.args.all.now c.loop-other.other-index c.other-item.result c.loop-other-test.true c.other-item.is);
+          ∙ ap (λ n. n + cond same 1 0) c.loop-other.invariant.is
+          ∙ sym (occurs_more text c.args.all.now c.loop-other.other-index c.other-item.result c.loop-other-test.true c.other-item.is);
       few = omega (arith, one, c.one_if_same-count.ensures, c.loop-other.invariant.few);
     }
