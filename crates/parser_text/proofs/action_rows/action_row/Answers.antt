@@ -13,5 +13,5 @@ loop-bit-preserved c =
     let Each : List ℕ → Type 0 = λ numbers. (bit : ℕ) → bit < length numbers → IsCodeOf t state bit (slice_index numbers bit) in
     record {
       long = ap length c.in_ok-push.ensures.items ∙ length-append row (code ∷ []) ∙ ap (λ n. n + 1) long;
-      each = subst Each (sym c.in_ok-push.ensures.items) (more_numbers (IsCodeOf t state) row code c.loop-bit.invariant.each (subst (λ (k : ℕ). IsCodeOf t state k code) (sym long) c.in_ok-code_of.ensures));
+      each = subst Each (sym {A = List ℕ} c.in_ok-push.ensures.items) (more_numbers (IsCodeOf t state) row code c.loop-bit.invariant.each (subst (λ (k : ℕ). IsCodeOf t state k code) (sym long) c.in_ok-code_of.ensures));
     }

@@ -13,5 +13,5 @@ loop-nonterminal-preserved c =
     let Each : List ℕ → Type 0 = λ numbers. (nonterminal : ℕ) → nonterminal < length numbers → IsTargetOf t state nonterminal (slice_index numbers nonterminal) in
     record {
       long = ap length c.in_ok-push.ensures.items ∙ length-append row (code ∷ []) ∙ ap (λ n. n + 1) long;
-      each = subst Each (sym c.in_ok-push.ensures.items) (more_numbers (IsTargetOf t state) row code c.loop-nonterminal.invariant.each (subst (λ (k : ℕ). IsTargetOf t state k code) (sym long) c.in_ok-target_of.ensures));
+      each = subst Each (sym {A = List ℕ} c.in_ok-push.ensures.items) (more_numbers (IsTargetOf t state) row code c.loop-nonterminal.invariant.each (subst (λ (k : ℕ). IsTargetOf t state k code) (sym long) c.in_ok-target_of.ensures));
     }

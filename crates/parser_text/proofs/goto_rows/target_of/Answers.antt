@@ -8,8 +8,8 @@ returns-in-None c = record {
   some = λ states is name at e. cc (c.in-None.ensures states is name at ∙ e);
 }
 
-pub returns-in-Some : goal.returns-in-Some
-returns-in-Some c = record {
+pub returns-else-target-eq0 : goal.returns-else-target-eq0
+returns-else-target-eq0 c = record {
   is = λ states is name at. ap target_number (c.in-Some.ensures states is name at);
   some = λ states is name at e.
       let same : Some c.in-Some.target ≡ Some 0 = c.in-Some.ensures states is name at ∙ e in
