@@ -1,3 +1,4 @@
 pub mod Codes
 pub mod RowLemmas
 pub mod ArrayLemmas
+pub mod ArrayJoins

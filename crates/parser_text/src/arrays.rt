@@ -48,7 +48,8 @@ fn push_cells(
         &packed.actions.column,
     )?;
     let cell = "the action in a cell";
-    push(alloc, capitals, arrays, "cell", cell, &packed.actions.cell)
+    push(alloc, capitals, arrays, "cell", cell, &packed.actions.cell)?;
+    Ok(())
 }
 
 // Appends the arrays of the usual reductions of states.
@@ -74,7 +75,8 @@ fn push_reductions(
     push(alloc, capitals, arrays, "set", set, &packed.set)?;
     let numbers = numbers_of(alloc, &packed.sets)?;
     let sets = "the sets, by their bits: the lowest bit of a byte is of the first terminal";
-    push(alloc, capitals, arrays, "sets", sets, &numbers)
+    push(alloc, capitals, arrays, "sets", sets, &numbers)?;
+    Ok(())
 }
 
 // Appends the arrays of gotos.
@@ -115,7 +117,8 @@ fn push_gotos(
         "goto_usual",
         usual,
         &packed.goto_usual,
-    )
+    )?;
+    Ok(())
 }
 
 // Appends the arrays of the sides of productions.
@@ -138,7 +141,8 @@ fn push_sides(
         left,
     )?;
     let length = "how many symbols the right side of a production has";
-    push(alloc, capitals, arrays, "length", length, lengths)
+    push(alloc, capitals, arrays, "length", length, lengths)?;
+    Ok(())
 }
 
 // Appends an array.
