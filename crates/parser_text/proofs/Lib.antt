@@ -2,3 +2,4 @@ pub mod Codes
 pub mod RowLemmas
 pub mod ArrayLemmas
 pub mod ArrayJoins
+pub mod PartLemmas
