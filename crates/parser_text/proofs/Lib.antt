@@ -2,4 +2,3 @@ pub mod Codes
 pub mod RowLemmas
 pub mod ArrayLemmas
 pub mod ArrayJoins
-pub mod PartLemmas
