@@ -1,7 +1,6 @@
 -- The arrays that were packed of the rows of a table are those of the table.
-use Rattle.std.proofs.Common.{◌≡◌, ◌≢◌, ⊎_elim, ℕ, ◌+◌, ◌<◌, ◌≤◌, ◌==◌, cond, List, length, slice_get, slice_index, Option, None, Some, refl, sym, ◌∙◌, ap, subst, arith, ne_eqb, eq-eqb}
+use Rattle.std.proofs.Common.{◌≡◌, ◌≢◌, ⊎_elim, ℕ, ◌+◌, ◌<◌, ◌≤◌, cond, List, length, slice_get, slice_index, None, Some, ◌∙◌, ap, subst, arith, ne_eqb}
 use Rattle.std.proofs.lemmas.Bool.{cases_lt}
-use Rattle.std.proofs.lemmas.List.{get_or_past}
 use Rattle.std.proofs.lemmas.Option.{slice_get_past, slice_get_within}
 use Rattle.std.specs.declared.alloc.Global.{Global}
 use Rattle.std.specs.declared.vec.Vec.{Vec}
@@ -15,7 +14,7 @@ use Rattle.parse_tables.specs.Codes.{entry_of}
 use Rattle.parse_tables.specs.Tables.{IsTableOf}
 use Rattle.parse_tables.specs.declared.table.ParseTable.{ParseTable}
 use Rattle.parse_tables.proofs.ActionRows.{bit_within}
-use Rattle.parser_text.specs.Arrays.{ActionStaysWithin, AreArraysOf, GotoStaysWithin}
+use Rattle.parser_text.specs.Arrays.{AreArraysOf}
 use Rattle.parser_text.specs.Rows.{HaveActionRows, HaveGotoRows, target_number}
 
 module _ (p : PackedTables) (t : ParseTable) (count : ℕ) (actions gotos : List (Vec ℕ Global)) (packed : ArePacked p actions gotos) (all_actions : length actions ≡ count) (all_gotos : length gotos ≡ count) (of_actions : HaveActionRows t actions) (of_gotos : HaveGotoRows t gotos) where

@@ -1,5 +1,5 @@
 -- Arrays of a parse table: by the lookups of the generated files, they have its actions and gotos.
-use Rattle.std.specs.Prelude.{◌≡◌, ℕ, ◌+◌, ◌<◌, length, slice_get, Option, None, Some}
+use Rattle.std.specs.Prelude.{◌≡◌, ℕ, ◌+◌, ◌<◌, length, slice_get, None, Some}
 use Rattle.lalrpop_base.specs.Words.{CanStandNext, Contents, IsBitOf, action_on}
 use Rattle.lalrpop_grammar.specs.declared.lookahead.token.Token.{Token}
 use Rattle.lalrpop_grammar.specs.declared.repr.NonterminalString.{NonterminalString}

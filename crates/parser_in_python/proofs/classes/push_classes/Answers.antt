@@ -1,4 +1,4 @@
-use Rattle.std.proofs.Common.{ℕ, List, ◌++◌, string_bytes}
+use Rattle.std.proofs.Common.{◌++◌, string_bytes}
 use Rattle.file_parts.proofs.Joins.{of_same, then_more}
 use Rattle.parser_in_python.specs.Classes.{members_from}
 use Rattle.parser_in_python.specs.declared.classes.TheConstants.{AFTER_PRODUCTIONS, BEFORE_NONTERMINALS, BEFORE_PRODUCTIONS, BEFORE_TERMINALS}
