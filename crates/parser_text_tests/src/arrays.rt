@@ -31,21 +31,21 @@ fn rows(alloc: Global, rows: &[[u32; 3]]) -> Result<Vec<Vec<u32>>, AllocError> {
 
 // Whether the arrays of actions are those of the example.
 fn are_actions(packed: &PackedTables) -> bool {
-    packed.actions.row.as_slice() == &[0, 1, 2]
-        && packed.actions.column.as_slice() == &[0, 3, 1, 3, 2]
-        && packed.actions.cell.as_slice() == &[4, 0, 5, 0, 1]
-        && packed.reduction.as_slice() == &[0, 1, 2]
-        && packed.set.as_slice() == &[0, 0, 1]
-        && packed.sets.as_slice() == &[4, 3]
+    packed.actions.row.as_slice() == [0, 1, 2].as_slice()
+        && packed.actions.column.as_slice() == [0, 3, 1, 3, 2].as_slice()
+        && packed.actions.cell.as_slice() == [4, 0, 5, 0, 1].as_slice()
+        && packed.reduction.as_slice() == [0, 1, 2].as_slice()
+        && packed.set.as_slice() == [0, 0, 1].as_slice()
+        && packed.sets.as_slice() == [4, 3].as_slice()
         && packed.set_bytes == 1
 }
 
 // Whether the arrays of gotos are those of the example.
 fn are_gotos(packed: &PackedTables) -> bool {
-    packed.gotos.row.as_slice() == &[1, 1, 0]
-        && packed.gotos.column.as_slice() == &[2, 1, 2]
-        && packed.gotos.cell.as_slice() == &[0, 1, 0]
-        && packed.goto_usual.as_slice() == &[1, 2]
+    packed.gotos.row.as_slice() == [1, 1, 0].as_slice()
+        && packed.gotos.column.as_slice() == [2, 1, 2].as_slice()
+        && packed.gotos.cell.as_slice() == [0, 1, 0].as_slice()
+        && packed.goto_usual.as_slice() == [1, 2].as_slice()
 }
 
 pub(crate) fn is_example(packed: &PackedTables) -> bool {
