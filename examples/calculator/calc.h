@@ -1,4 +1,4 @@
-// A parser by LR(1) tables, made by a script from the data of lrshow. Do not edit it.
+// A parser by the LR(1) tables of lrshow 0.23.1. Do not edit it.
 //
 // Start symbol: Input. Method: lane. Conflicts: none. States: 18.
 // The tables are exact: a state has an action on a terminal only if the LR(1) tables have one.

@@ -12,7 +12,7 @@ def heading(packed, method, usage):
     """The lines, without the signs of a comment."""
     tables = packed.tables
     return [
-        "A parser by LR(1) tables, made by a script from the data of lrshow. Do not edit it.",
+        "A parser by the LR(1) tables of lrshow 0.23.1. Do not edit it.",
         "",
         f"Start symbol: {tables.start}. Method: {method}. Conflicts: none. States: {len(tables.states)}.",
         *(SMALL if packed.is_small else EXACT),

@@ -8,5 +8,5 @@ about_text sign start method states = sign ++ (codes " Start symbol: " ++ (start
 
 -- the comment: what made the file, the tables, and how to use it
 abbrev pub heading_text : List ℕ → List ℕ → List ℕ → ℕ → List ℕ → List ℕ
-heading_text sign start method states usage = sign ++ (codes " A parser by LR(1) tables, made by a script from the data of lrshow. Do not edit it.\n" ++ (sign ++ (codes "\n" ++ (about_text sign start method states
+heading_text sign start method states usage = sign ++ (codes " A parser by the LR(1) tables of lrshow 0.23.1. Do not edit it.\n" ++ (sign ++ (codes "\n" ++ (about_text sign start method states
     ++ (sign ++ (codes " The tables are exact: a state has an action on a terminal only if the LR(1) tables have one.\n" ++ (sign ++ (codes " " ++ (usage ++ codes "\n")))))))))

@@ -19,9 +19,7 @@ pub fn push_heading(
         start.now method.now states usage.now) }
 {
     text.push_str(sign)?;
-    text.push_str(
-        " A parser by LR(1) tables, made by a script from the data of lrshow. Do not edit it.\n",
-    )?;
+    text.push_str(" A parser by the LR(1) tables of lrshow 0.23.1. Do not edit it.\n")?;
     text.push_str(sign)?;
     text.push_str("\n")?;
     push_about(text, sign, start, method, states)?;
