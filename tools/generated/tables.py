@@ -42,7 +42,7 @@ class Tables:
         }
         return State(
             {tokens[it]: target for it, target in state["shifts"].items()},
-            {names[it]: target for it, target in state["gotos"].items()},
+            {names[it]: target for it, target in state["gotos"].items() if it in names},
             {production: reductions[production] for production in sorted(reductions) if reductions[production]},
         )
 
@@ -64,7 +64,5 @@ def check_start(start, productions):
 
 
 def nonterminals_of(productions):
-    """The names on left and right sides, in the order of their bytes."""
-    left = {it.nonterminal for it in productions}
-    right = {text for it in productions for is_terminal, text in it.symbols if not is_terminal}
-    return sorted(left | right)
+    """The names on left sides, in the order of their bytes. Nothing is reduced to another name."""
+    return sorted({it.nonterminal for it in productions})

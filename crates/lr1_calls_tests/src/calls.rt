@@ -31,7 +31,7 @@ pub(crate) const DATA: &str = "{\"format\":\"lrshow\",
 ";
 
 const USAGE: &str =
-    "usage: START (parse LIMIT TOKEN.. | report | explain | check [--json] | conflicts | tree [--dot] TOKEN.. | json | dot [--around STATE [--depth N] | --conflicts] | html)\n";
+    "usage: START (parse LIMIT TOKEN.. | report | explain | check [--json] | conflicts | tree [--dot] TOKEN.. | json | dot [--around STATE [--depth N] | --conflicts] | html | c [--prefix NAME] | rust | python)\n";
 
 // What a byte of the room is before the call.
 const BEFORE: u8 = 170;

@@ -9,7 +9,9 @@ use Rattle.lrshow_arguments.specs.declared.words.Request.{Request}
 use Rattle.lrshow_arguments.specs.declared.words.Choice.{Choice as ChoiceWords}
 use Rattle.lrshow_arguments.specs.declared.words.Choice.TheVariants.{All as AllWord, Near as NearWords, Conflicts as ConflictsWord}
 use Rattle.lrshow_arguments.specs.declared.words.Form.{Form as FormWords}
-use Rattle.lrshow_arguments.specs.declared.words.Form.TheVariants.{Tables as TablesWords, Tree as TreeWords}
+use Rattle.lrshow_arguments.specs.declared.words.Form.TheVariants.{Tables as TablesWords, Tree as TreeWords, Parser as ParserWords}
+use Rattle.lrshow_arguments.specs.declared.words.Language.{Language as LanguageWord}
+use Rattle.lrshow_arguments.specs.declared.words.Language.TheVariants.{C as CWord, Rust as RustWord, Python as PythonWord}
 use Rattle.lrshow_arguments.specs.declared.words.TableForm.{TableForm as TableFormWords}
 use Rattle.lrshow_arguments.specs.declared.words.TableForm.TheVariants.{Json as JsonWord, Graph as GraphWords, Page as PageWord, Causes as CausesWord}
 use Rattle.lrshow_arguments.specs.declared.words.Text.{Text as TextWords}
@@ -30,11 +32,18 @@ pub data TableForm : Type 0 where
   Page : TableForm
   Causes : TableForm
 
--- what is shown of a grammar: its tables in a form, or the parse of tokens and whether it is drawn as
--- a graph
+-- the language in which a parser is written
+pub data Language : Type 0 where
+  C : Language
+  Rust : Language
+  Python : Language
+
+-- what is shown of a grammar: its tables in a form; the parse of tokens and whether it is drawn as a
+-- graph; or a parser in a language, with a prefix for its names
 pub data Form : Type 0 where
   TablesIn : TableForm → Form
   TreeOf : List (List ℕ) → Bool → Form
+  ParserIn : Language → List ℕ → Form
 
 -- a start symbol, and what is shown of the grammar
 pub record Asked : Type 0 where
@@ -88,9 +97,31 @@ abbrev pub tree_of : List (List ℕ) → Form
 tree_of [] = TreeOf [] false
 tree_of (option ∷ tokens) = if bytes_eq option (codes "--dot") then TreeOf tokens true else TreeOf (option ∷ tokens) false
 
+-- the language that a verb names
+abbrev pub language_of : List ℕ → Option Language
+language_of verb = if bytes_eq verb (codes "c") then Some C else (if bytes_eq verb (codes "rust") then Some Rust else (if bytes_eq verb (codes "python") then Some Python else None))
+
+-- --prefix NAME asks for a parser in C whose names begin with NAME
+abbrev pub named_parser : Language → (option prefix : List ℕ) → Option Form
+named_parser C option prefix = if bytes_eq option (codes "--prefix") && is_name prefix then Some (ParserIn C prefix) else None
+named_parser Rust option prefix = None
+named_parser Python option prefix = None
+
+-- the parser that the arguments after a language ask for; without --prefix its names begin with `lr`
+abbrev pub parser_of : Language → List (List ℕ) → Option Form
+parser_of language [] = Some (ParserIn language (codes "lr"))
+parser_of language (option ∷ []) = None
+parser_of language (option ∷ prefix ∷ []) = named_parser language option prefix
+parser_of language (option ∷ prefix ∷ word ∷ words) = None
+
+-- the parser in a language that the arguments ask for, if there is one, and else the tables
+abbrev pub parser_or_tables : Option Language → List ℕ → List (List ℕ) → Option Form
+parser_or_tables None verb words = option_map TablesIn (table_form_of verb words)
+parser_or_tables (Some language) verb words = parser_of language words
+
 -- what the arguments after the start symbol ask for
 abbrev pub form_of : List ℕ → List (List ℕ) → Option Form
-form_of verb words = if bytes_eq verb (codes "tree") then Some (tree_of words) else option_map TablesIn (table_form_of verb words)
+form_of verb words = if bytes_eq verb (codes "tree") then Some (tree_of words) else parser_or_tables (language_of verb) verb words
 
 -- what arguments ask for that have the form FILE START and a form
 abbrev pub request_of : List (List ℕ) → Option Asked
@@ -136,10 +167,17 @@ table_form_view (GraphWords choice) = Graph (choice_view choice)
 table_form_view PageWord = Page
 table_form_view CausesWord = Causes
 
+-- a language, from the type of the code
+abbrev pub language_view : LanguageWord → Language
+language_view CWord = C
+language_view RustWord = Rust
+language_view PythonWord = Python
+
 -- a form, from the type of the code
 abbrev pub form_view : FormWords → Form
 form_view (TablesWords form) = TablesIn (table_form_view form)
 form_view (TreeWords tokens is_graph) = TreeOf (map string_bytes tokens.now) is_graph
+form_view (ParserWords language prefix) = ParserIn (language_view language) prefix.now
 
 -- a request, from the type of the code
 abbrev pub request_view : Request → Asked

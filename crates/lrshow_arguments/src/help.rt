@@ -10,12 +10,13 @@ use std::alloc::Global;
 
 /// How the program is called.
 pub const USAGE: &str =
-    "usage: lrshow FILE START (check [--json] | conflicts | tree [--dot] TOKEN.. | json | dot [--around STATE [--depth N] | --conflicts] | html)\n";
+    "usage: lrshow FILE START (check [--json] | conflicts | tree [--dot] TOKEN.. | json | dot [--around STATE [--depth N] | --conflicts] | html | c [--prefix NAME] | rust | python)\n";
 
 // What the usage means.
 const DETAILS: &str = "       lrshow (--help | -h | --version)
 
-lrshow finds mistakes and conflicts of a grammar, draws parses, and shows LR(1) tables.
+lrshow finds mistakes and conflicts of a grammar, draws parses, shows LR(1) tables, and writes
+parsers by them.
 FILE is a grammar file, or - for standard input. START is the start symbol.
 
   check               errors and warnings, a line for each; with --json as data
@@ -26,6 +27,8 @@ FILE is a grammar file, or - for standard input. START is the start symbol.
   dot --around STATE  the state with this number and its neighbours; --depth N goes N edges far
   dot --conflicts     the states on shortest paths to conflicts
   html                a page for a browser, in one file
+  c, rust, python     a parser in this language, in one file that needs no library
+  c --prefix NAME     a parser in C whose names begin with NAME, and not with lr
 
 LALRPOP_LANE_TABLE=disabled in the environment asks for the canonical construction.
 

@@ -1,6 +1,6 @@
 //! The arguments of the command line.
-ghost use Rattle.std.specs.Prelude.{◌≡◌, option_map, map, string_bytes};
-ghost use Rattle.lrshow_arguments.specs.Words.{check_by, check_of, check_view, choice_of, choice_view, conflict_choice, form_of, form_view, lone_form, near, request_of, request_view, table_form_of, table_form_view, text_for, text_view, tree_of};
+ghost use Rattle.std.specs.Prelude.{◌≡◌, codes, option_map, map, string_bytes};
+ghost use Rattle.lrshow_arguments.specs.Words.{check_by, check_of, check_view, choice_of, choice_view, conflict_choice, form_of, form_view, language_of, language_view, lone_form, named_parser, near, parser_of, parser_or_tables, request_of, request_view, table_form_of, table_form_view, text_for, text_view, tree_of};
 
 use grammar_text::symbols::is_a_name;
 use program_answers::words::limit_of;
@@ -27,6 +27,14 @@ pub enum TableForm {
     Causes,
 }
 
+/// The language in which a parser is written.
+#[derive(Clone, Copy)]
+pub enum Language {
+    C,
+    Rust,
+    Python,
+}
+
 /// What is shown of a grammar.
 #[derive(Clone, Copy)]
 pub enum Form<'a> {
@@ -34,6 +42,8 @@ pub enum Form<'a> {
     Tables(TableForm),
     /// The parse of tokens, and whether it is drawn as a graph.
     Tree(&'a [String], bool),
+    /// A file that parses by its tables. The names in one for C begin with the text.
+    Parser(Language, &'a str),
 }
 
 /// What the arguments ask for.
@@ -122,8 +132,67 @@ fn form_of<'a>(verb: &str, rest: &'a [String]) -> Option<Form<'a>>
     if verb == "tree" {
         return Some(tree_of(rest));
     }
-    let form = table_form_of(verb, rest)?;
-    Some(Form::Tables(form))
+    parser_or_tables(language_of(verb), verb, rest)
+}
+
+// The parser in a language that the arguments ask for, if there is one, and else the tables.
+fn parser_or_tables<'a>(
+    language: Option<Language>,
+    verb: &str,
+    rest: &'a [String],
+) -> Option<Form<'a>>
+    ensures { option_map form_view result ≡ parser_or_tables (option_map language_view language)
+        verb.now (map string_bytes rest.now) }
+{
+    match language {
+        Some(language) => parser_of(language, rest),
+        None => {
+            let form = table_form_of(verb, rest)?;
+            Some(Form::Tables(form))
+        }
+    }
+}
+
+// The language that a verb names.
+fn language_of(verb: &str) -> Option<Language>
+    ensures { option_map language_view result ≡ language_of verb.now }
+{
+    if verb == "c" {
+        return Some(Language::C);
+    }
+    if verb == "rust" {
+        return Some(Language::Rust);
+    }
+    if verb == "python" {
+        return Some(Language::Python);
+    }
+    None
+}
+
+// The parser that the arguments after a language ask for.
+fn parser_of(language: Language, rest: &[String]) -> Option<Form<'_>>
+    ensures { option_map form_view result ≡ parser_of (language_view language)
+        (map string_bytes rest.now) }
+{
+    match rest {
+        [] => Some(Form::Parser(language, "lr")),
+        [option, prefix] => named_parser(language, option.as_str(), prefix.as_str()),
+        _ => None,
+    }
+}
+
+// The parser whose names begin with a prefix. Only one for C has such names.
+fn named_parser<'a>(language: Language, option: &str, prefix: &'a str) -> Option<Form<'a>>
+    ensures { option_map form_view result ≡ named_parser (language_view language) option.now
+        prefix.now }
+{
+    let Language::C = language else {
+        return None;
+    };
+    if option != "--prefix" || !is_a_name(prefix) {
+        return None;
+    }
+    Some(Form::Parser(language, prefix))
 }
 
 // The parse that the arguments after `tree` ask for.

@@ -23,8 +23,9 @@ use Rattle.table_pictures.specs.Paths.{AreNear, AreOnShortest}
 use Rattle.conflict_causes.specs.CauseTexts.{IsConflictsText}
 use Rattle.lrshow_check.specs.Built.{AreBuilt}
 use Rattle.lrshow_check.specs.Output.{IsOutput}
+use Rattle.lrshow_parser.specs.Parsers.{IsParserShown}
 use Rattle.lrshow_run.specs.Trees.{IsParseDrawn}
-use Rattle.lrshow_arguments.specs.Words.{Choice, All, Near, ToConflicts, Form, TablesIn, TreeOf, TableForm, Json, Graph, Page, Causes}
+use Rattle.lrshow_arguments.specs.Words.{Choice, All, Near, ToConflicts, Form, TablesIn, TreeOf, ParserIn, TableForm, Json, Graph, Page, Causes}
 
 -- ---- the graph
 -- the message if there is no state with the number
@@ -102,10 +103,11 @@ pub record AreTablesShown (method : Method) (g : Grammar) (start : NonterminalSt
   pub built : AreBuilt method g start status states conflicts
   pub shown : IsFormShown g start status states conflicts form s
 
--- what is shown of the tables of a grammar, or of a parse by them
+-- what is shown of the tables of a grammar, of a parse by them, or of a parser
 abbrev pub IsMadeShown : Method → Grammar → NonterminalString → Form → Shown → Type 0
 IsMadeShown method g start (TablesIn form) s = AreTablesShown method g start form s
 IsMadeShown method g start (TreeOf words is_graph) s = IsParseDrawn method g start words is_graph s
+IsMadeShown method g start (ParserIn language prefix) s = IsParserShown language prefix method g start s
 
 -- whether a form has nothing to show without a production of the start symbol
 abbrev pub needs_start : Form → Bool
@@ -114,6 +116,7 @@ needs_start (TablesIn (Graph choice)) = false
 needs_start (TablesIn Page) = false
 needs_start (TablesIn Causes) = true
 needs_start (TreeOf words is_graph) = true
+needs_start (ParserIn language prefix) = true
 
 -- whether a form needs a production of the start symbol, and there is none
 abbrev pub is_missing : Grammar → NonterminalString → Form → Bool

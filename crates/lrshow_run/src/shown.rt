@@ -19,6 +19,7 @@ use lalrpop_tables::build::Method;
 use lrshow_arguments::words::{Choice, Form, TableForm};
 use lrshow_check::built::{Built, build};
 use lrshow_check::lines::visible_lines;
+use lrshow_parser::shown::parser_shown;
 use program_answers::answer::Shown;
 use std::alloc::Global;
 use table_data::whole::tables_json;
@@ -43,6 +44,7 @@ fn needs_start(form: Form<'_>) -> bool
         Form::Tables(TableForm::Causes) => true,
         Form::Tables(_) => false,
         Form::Tree(_, _) => true,
+        Form::Parser(_, _) => true,
     }
 }
 
@@ -78,7 +80,7 @@ fn no_start_text(
     }
 }
 
-/// What is shown of the tables of a grammar, or of a parse by them. The error is `OutOfMemory` if
+/// What is shown of the tables of a grammar, of a parse by them, or of a parser. The error is `OutOfMemory` if
 /// an allocation fails.
 pub(crate) fn made_shown(
     alloc: Global,
@@ -95,6 +97,9 @@ pub(crate) fn made_shown(
         Form::Tables(form) => tables_shown(alloc, grammar, start, method, form),
         Form::Tree(tokens, is_graph) => parse_shown(
             alloc, grammar, start, method, tokens, is_graph,
+        ),
+        Form::Parser(language, prefix) => parser_shown(
+            alloc, grammar, start, method, language, prefix,
         ),
     }
 }

@@ -18,7 +18,7 @@ const ONE_TERMINAL: &str = "S = \"x\"";
 const CONFLICT: &str = "S = N \"p\"\nN = \"n\"\nN = \"n\"\n";
 
 const USAGE: &str =
-    "usage: lrshow FILE START (check [--json] | conflicts | tree [--dot] TOKEN.. | json | dot [--around STATE [--depth N] | --conflicts] | html)\n";
+    "usage: lrshow FILE START (check [--json] | conflicts | tree [--dot] TOKEN.. | json | dot [--around STATE [--depth N] | --conflicts] | html | c [--prefix NAME] | rust | python)\n";
 
 /// The data of `ONE_TERMINAL`, by the canonical method.
 const DATA: &str = "{\"format\":\"lrshow\",
@@ -317,6 +317,34 @@ const MESSAGES: [Row; 8] = [
         1,
     ),
 ];
+
+// Parsers that have no file: of conflicts, of a start symbol on a right side, and of one without a
+// production; and options that are none of a parser.
+const NO_PARSERS: [Row; 6] = [
+    (
+        CONFLICT,
+        "f S rust",
+        "",
+        "conflicts: 1; see `lrshow FILE S conflicts`\n",
+        1,
+    ),
+    (
+        "S = \"x\"\nS = S \"x\"\n",
+        "f S python",
+        "",
+        "`S` is on a right side; add a start symbol that is on none\n",
+        2,
+    ),
+    (ONE_TERMINAL, "f T c", "", "`T` has no production\n", 2),
+    (ONE_TERMINAL, "f S c --prefix 1", "", USAGE, 2),
+    (ONE_TERMINAL, "f S c --small calc", "", USAGE, 2),
+    (ONE_TERMINAL, "f S rust --prefix calc", "", USAGE, 2),
+];
+
+#[test]
+fn parsers_without_a_file(rt: HostRuntime) -> Result<(), Fail> {
+    expect_all(&rt, rt.alloc(), Method::Lane, &NO_PARSERS)
+}
 
 #[test]
 fn messages(rt: HostRuntime) -> Result<(), Fail> {

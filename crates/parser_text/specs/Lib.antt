@@ -1,4 +1,5 @@
 pub mod Arrays
+pub mod Errors
 pub mod FileArrays
 pub mod Parsers
 pub mod Rows

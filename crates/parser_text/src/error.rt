@@ -1,6 +1,7 @@
 //! Why a parse table has no arrays.
 ghost use Rattle.std.specs.Prelude.{◌≡◌};
-ghost use Rattle.parser_text.specs.declared.error.ParserTextError.TheVariants.{Memory, Packing};
+ghost use Rattle.parser_text.specs.Errors.{of_packing};
+ghost use Rattle.parser_text.specs.declared.error.ParserTextError.TheVariants.{Memory};
 
 use packed_tables::error::PackError;
 use std::alloc::{AllocError, AllocFailed};
@@ -40,9 +41,13 @@ impl<T: Drop> From<AllocFailed<T>> for ParserTextError {
 }
 
 impl From<PackError> for ParserTextError {
-    ghost from_gives = { λ error e. e ≡ Packing error };
+    ghost from_gives = { λ error e. e ≡ of_packing error };
 
     fn from(error: PackError) -> Self {
-        ParserTextError::Packing(error)
+        match error {
+            PackError::TooLarge => ParserTextError::Packing(PackError::TooLarge),
+            PackError::Wrong => ParserTextError::Packing(PackError::Wrong),
+            PackError::Memory => ParserTextError::Memory,
+        }
     }
 }

@@ -16,7 +16,7 @@ Answer = collections.namedtuple("Answer", "status text")
 # The beginning of the answer to words of another form.
 USAGE = "usage: START "
 # Words of `lrshow`, for grammars whose start symbol is S.
-SHOWN = ("json", "check", "check\0--json", "conflicts", "dot", "dot\0--conflicts", "html", "tree", "tree\0--dot\0a")
+SHOWN = ("json", "check", "check\0--json", "conflicts", "dot", "dot\0--conflicts", "html", "tree", "tree\0--dot\0a", "rust")
 
 
 def file_of(questions):

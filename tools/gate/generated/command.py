@@ -1,7 +1,8 @@
 """tools/run generated [PROGRAM [CASES]]
 
 Makes the files for C, Rust and Python of the tables of each parse case of `lrtab`, exact ones and
-small ones, by the generator in tools/generated. It compiles them, without a warning, and answers the
+small ones, by the generator in tools/generated. The exact ones must be those that `lrshow FILE START
+c`, `rust` and `python` write, byte for byte. It compiles them, without a warning, and answers the
 cases by them: the tree, or the refused token with its position and the expected tokens, or the limit.
 The texts are those of the cases. The positions and the expected tokens are those of a model, which
 runs by the data of `lrshow`. If the start symbol is on a right side, the grammar gets a new one, and

@@ -4,6 +4,7 @@ import random
 
 from generated.packing import Packed, check
 from generated.tables import NoTables, Tables
+from gate.generated import written
 from gate.generated.model import Limit, Model, Refused
 from gate.hostile import reading
 from gate.replay.asking import data_in, data_of
@@ -74,6 +75,7 @@ class Found:
         if data is None or fault:
             self.faults.append(f"{name}: {fault or 'no data'}")
             return
+        self.faults += written.faults(self.program, self.grammars, name, data)
         try:
             self.make(name, Tables(data), Model(data), [self.question(it, Model(data), it["stdout"]) for it in cases])
         except NoTables as why:

@@ -61,7 +61,7 @@ def check_shown_answer(lines, request, conflicts, answer):
     data = shown_data.read(page.held(text.decode()).encode() if request.task == "html" else text)
     expect(len(data["conflicts"]) == conflicts, f"expected {conflicts} conflicts")
     check_data(data, request.start, reading.read("\n".join(lines)))
-    check_shown(answer, request, data)
+    check_shown(answer, request, data, None)
 
 
 def check_graph(answer, around, conflicts):

@@ -7,14 +7,14 @@ from gate.hostile.forms import check_explanation
 from gate.hostile.reports import check_report
 from gate.hostile.verdicts import Program, check_conflicts, fault_in, faults_of, number_of, quoted
 from gate.hostile.words import SHOWN_READABLE
-from gate.shown import causes, checks, doubts, graph, page, tree
+from gate.shown import causes, checks, doubts, graph, page, parsers, tree
 from gate.shown import data as shown_data
 from gate.shown.data import expect
 from gate.shown.listings import Listings
 
 USAGE = (
     "usage: lrshow FILE START (check [--json] | conflicts | tree [--dot] TOKEN.. | json | "
-    "dot [--around STATE [--depth N] | --conflicts] | html)"
+    "dot [--around STATE [--depth N] | --conflicts] | html | c [--prefix NAME] | rust | python)"
 )
 
 
@@ -37,6 +37,10 @@ def asked_of_lrshow(task, words):
         return next(((task, it, []) for it in choice_of(words)), None)
     if task == "check" and words == ["--json"]:
         return f"{task} --json", None, []
+    if task == "c" and len(words) == 2 and words[0] == "--prefix" and reading.is_name(words[1]):
+        return task, words[1], []
+    if task in parsers.WRITERS and not words:
+        return task, "lr", []
     return (task, None, []) if task in ("check", "conflicts", "json", "html") and not words else None
 
 
@@ -78,12 +82,16 @@ def no_start(data):
     return "" if data["start"] in names else f"`{data['start']}` has no production{hint}\n"
 
 
-def check_shown(answer, request, data):
+def check_shown(answer, request, data, grammar):
     """An answer shows some data."""
     is_tree = request.task.startswith("tree")
-    if (is_tree or request.task == "conflicts") and (message := no_start(data)):
+    if (is_tree or request.task in ("conflicts", *parsers.WRITERS)) and (message := no_start(data)):
         expected = 2, b"", message.encode()
         expect((answer.status, answer.stdout, answer.stderr) == expected, f"expected {expected}")
+        return
+    if request.task in parsers.WRITERS:
+        if not parsers.lists_more(grammar.marked, [left for left, _ in grammar.rules]):
+            parsers.check(answer, data, request.task, request.number)
         return
     if is_tree:
         tree.check(answer, data, [it[1:-1] for it in request.tokens], request.task == "tree --dot")
@@ -121,7 +129,7 @@ def fault_of(text, words, answer, data_answer):
 
     def checked_data():
         data = shown_data.read(data_answer.stdout)
-        check_shown(data_answer, request._replace(task="json", number=None, tokens=[]), data)
+        check_shown(data_answer, request._replace(task="json", number=None, tokens=[]), data, grammar)
         check_data(data, request.start, grammar)
         return data
 
@@ -132,7 +140,7 @@ def fault_of(text, words, answer, data_answer):
             check_check(answer, request, text, None if lines else checked_data())
 
         return fault_in([answer, data_answer], [], check)
-    return fault_in([answer, data_answer], lines, lambda: check_shown(answer, request, checked_data()))
+    return fault_in([answer, data_answer], lines, lambda: check_shown(answer, request, checked_data(), grammar))
 
 
 def difference_of(lane, canonical):

@@ -20,7 +20,8 @@ SHOWN_VERBS = (
     "dot 0 --around", "dot -around 0", "dot --around=0", "dot --around 0 0", "dot --around 0 --around 0", "report",
     "parse 1", "explain", "svg", "check 0", "check --around 0", "check --json --json", "conflicts 0", "dot --depth 1",
     "dot --depth 1 --around 0", "dot --around 0 --depth", "dot --around 0 --depth x", "dot --conflicts 0",
-    "dot --around 0 --depth 1 1", "trees",
+    "dot --around 0 --depth 1 1", "trees", "c --prefix", "c --prefix 9", "c calc", "c --small", "rust --prefix calc",
+    "python 0", "C",
 )
 ODD_TOKENS = (
     "", "-", "--", "--help", "Eof", '"', '"a"', "a b", "\n", "\t", "é", "\u2028", "🦀", "?", "[S: ]", "]",
@@ -33,6 +34,8 @@ READABLE = ("g", "./g", ".//g", "/dev/null")
 NOT_READABLE = (
     "none", ".", "..", "g/", "g/g", "", "\n", "é", "none/g", "n" * 300, "n" * 5_000, "/", "'g'", "g ", "--", "-",
 )
+# Words for parsers, which are all right.
+PARSERS = ("c", "rust", "python", "c --prefix calc", "c --prefix _9")
 SHOWN_READABLE = (*READABLE, "-")
 
 
@@ -60,7 +63,9 @@ class Inputs(Grammars):
             words += [("json", "html", "dot", "check", "conflicts", "json", "html", "dot")[kind]]
         elif kind < 10:
             words += [("check", "--json"), ("dot", "--conflicts")][kind - 8]
-        elif kind < 13:
+        elif kind < 12:
+            words += self.one_of(PARSERS).split(" ")
+        elif kind < 14:
             words += ["tree", *["--dot"] * self.below(2), *self.tokens_of(rules, words[1])]
         elif kind < 19:
             words += ["dot", "--around", str(self.below(9)) if self.below(8) else self.one_of(LIMITS + NO_LIMITS)]

@@ -13,10 +13,13 @@ from generated.__main__ import text_of
 from generated.packing import Packed, Rows, check
 from generated.tables import NoTables, Tables
 from gate.files import ROOT, write
-from gate.generated import command, examples
+from gate.generated import command, examples, written
 from gate.generated.languages import LANGUAGES, answers
 from gate.generated.model import Model, Outcome
 from gate.generated.questions import ENOUGH, Made, Question, answer_of, line_of
+from gate.hostile.verdicts import Answer
+from gate.shown import parsers
+from gate.shown.data import WrongData
 from gate.tests.programs import CommandTest
 from gate.tests.test_replay import by_lrshow
 
@@ -262,10 +265,44 @@ class Answers(unittest.TestCase):
 
 
 def in_python_alone(*change):
-    """The command by a script in the place of `lrshow`, for Python alone, and without the calculators."""
+    """The command by a script in the place of `lrshow`, which writes only data. It is for Python alone,
+    and without the calculators."""
     languages, calculators = {"Python": LANGUAGES["Python"]}, mock.patch.object(examples, "faults_of", return_value=[])
-    with mock.patch.object(command, "LANGUAGES", languages), calculators:
+    files = mock.patch.object(written, "faults", return_value=[])
+    with mock.patch.object(command, "LANGUAGES", languages), calculators, files:
         return by_lrshow(command, *change)
+
+
+class Files(unittest.TestCase):
+    """Files of `lrshow` beside those of the generator."""
+
+    def fault_of(self, answer, data=DIFFERENCES, language="c", prefix="lr"):
+        try:
+            parsers.check(answer, data, language, prefix, ["lane"])
+        except WrongData as why:
+            return str(why)
+        return None
+
+    def test_files(self):
+        packed = Packed(Tables(DIFFERENCES), False)
+        for language, prefix in (("c", "lr"), ("c", "calc"), ("rust", "lr"), ("python", "lr")):
+            text = parsers.text_of(packed, language, "lane", prefix)
+            self.assertIsNone(self.fault_of(Answer(0, text, b""), DIFFERENCES, language, prefix))
+            for wrong in (Answer(0, text + b" ", b""), Answer(1, text, b""), Answer(0, text, b" "), Answer(2, b"", b"no")):
+                self.assertIsNotNone(self.fault_of(wrong, DIFFERENCES, language, prefix))
+        self.assertIsNotNone(self.fault_of(Answer(0, parsers.text_of(packed, "c", "canonical", "lr"), b"")))
+
+    def test_reasons(self):
+        data = {**DIFFERENCES, "conflicts": [1, 2]}
+        for status, reason, is_right in (
+            (1, b"conflicts: 2; see `lrshow FILE S conflicts`\n", True), (2, b"conflicts: 2; see\n", False),
+            (1, b"conflicts: 3; see\n", False), (0, b"", False),
+        ):
+            self.assertEqual(self.fault_of(Answer(status, b"", reason), data) is None, is_right, reason)
+
+    def test_names_without_productions(self):
+        self.assertTrue(parsers.lists_more({"A"}, ["S"]))
+        self.assertFalse(parsers.lists_more({"A"}, ["S", "A"]))
 
 
 class Command(CommandTest):

@@ -138,7 +138,10 @@ ASKED = (
     ("dot --conflicts", ("dot", graph.CONFLICTS, [])), ("dot --around 007", ("dot", 7, [])),
     ("dot --around 7 --depth 01", ("dot", 7, [])), ("dot --around 7 --depth 0", ("dot", graph.Near(7, 0), [])),
     ("dot --around 7 --depth 12", ("dot", graph.Near(7, 12), [])),
+    ("c", ("c", "lr", [])), ("rust", ("rust", "lr", [])), ("python", ("python", "lr", [])),
+    ("c --prefix calc", ("c", "calc", [])),
     *((words, None) for words in (
+        "c calc", "c --prefix", "c --prefix 9", "c --prefix a b", "rust --prefix calc", "python x", "C",
         "svg", "json x", "html x", "conflicts x", "check x", "check --json x", "check --json --json", "dot x",
         "dot --around", "dot --around x", "dot --around -1", "dot --around 18446744073709551616", "dot --around 7 8",
         "dot --around 7 --depth", "dot --around 7 --depth x", "dot --around 7 --depth 1 2", "dot --around 7 --around 7",

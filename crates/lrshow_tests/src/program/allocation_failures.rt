@@ -137,6 +137,19 @@ fn each_growth_around_no_state(rt: HostRuntime) -> Result<(), Fail> {
 }
 
 #[test]
+fn each_growth_of_a_parser(rt: HostRuntime) -> Result<(), Fail> {
+    for line in ["f S c --prefix calc", "f S rust", "f S python"] {
+        refused_by_both(&rt, rt.alloc(), ONE_TERMINAL, line, 0)?;
+    }
+    Ok(())
+}
+
+#[test]
+fn each_growth_without_a_parser(rt: HostRuntime) -> Result<(), Fail> {
+    refused_by_both(&rt, rt.alloc(), CONFLICT, "f S c", 1)
+}
+
+#[test]
 fn each_growth_of_a_page(rt: HostRuntime) -> Result<(), Fail> {
     refused_by_both(&rt, rt.alloc(), ONE_TERMINAL, "f S html", 0)
 }
