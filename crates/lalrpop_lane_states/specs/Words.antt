@@ -5,7 +5,7 @@ pub use Rattle.lalrpop_lane_states.specs.lane_states.LaneStates.{HoldAllFrom, Ho
 pub use Rattle.lalrpop_lane_states.specs.lane_states.LaneStates.{IsTokenOf, promoted_item}
 pub use Rattle.lalrpop_lane_states.specs.lane_states.LaneStates.{promoted_reduction}
 pub use Rattle.lalrpop_lane_states.specs.lane_states.Lr0Copies.{AreClosedTables, AreCopiedConflicts, AreCopiedTables, AreLr0Copies, FailsByCopies}
-pub use Rattle.lalrpop_lane_states.specs.lane_states.Resolving.{AreResolvedUpTo, HasOverlap, HasSameReductions, IsApartAt, IsCopied, IsResolving, IsResolveStep}
+pub use Rattle.lalrpop_lane_states.specs.lane_states.Resolving.{AreResolvedBetween, AreResolvedUpTo, HasOverlap, HasSameReductions, IsApartAt, IsCopied, IsResolving, IsResolveStep}
 pub use Rattle.lalrpop_lane_states.specs.lanes.LaneActions.{ActionsAscend, AreActions}
 pub use Rattle.lalrpop_lane_states.specs.lanes.LaneActions.{action_order, asked_actions, conflict_actions}
 pub use Rattle.lalrpop_lane_states.specs.lanes.LaneActions.{reduce_action}

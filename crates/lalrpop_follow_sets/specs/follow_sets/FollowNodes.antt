@@ -1,7 +1,7 @@
 -- The nodes of the follow graph by number (DeRemer and Pennello 1982), and the data that a pass
 -- over states reads.
 use Rattle.std.specs.Prelude.{◌≡◌, ◌<◌, ◌≤◌, ◌+◌, ◌⊎◌, ℕ, zero, suc, List, [], ◌∷◌, length, map, get_or, slice_get, Option, Some, None, Contains}
-use Rattle.lalrpop_base.specs.Words.{AllDiffer, AreClosed, AreCoherent, Contents, IsReached, IsWellFormed, rules_of, AreExpansions, AreNumbers, AreSuffixes}
+use Rattle.lalrpop_base.specs.Words.{AllDiffer, AreClosed, AreCoherent, Contents, IsBehindDot, IsReached, IsWellFormed, rules_of, AreExpansions, AreNumbers, AreSuffixes}
 use Rattle.lalrpop_grammar.specs.declared.repr.NonterminalString.{NonterminalString}
 use Rattle.lalrpop_grammar.specs.declared.repr.Production.{Production}
 use Rattle.lalrpop_grammar.specs.declared.repr.Symbol.{Symbol}
@@ -91,7 +91,22 @@ AreItemsOfGrammar productions states = (s : ℕ) (q : Production) (dot : ℕ) �
 abbrev pub AreAllReached : (ℕ → Contents) → ℕ → Type 0
 AreAllReached states count = (n : ℕ) → n < count → IsReached states n
 
--- the pass is over states of a grammar that are closed and reached, with these states by number,
+-- the production is of the start symbol in state 0, or its nonterminal is after a dot in the state
+abbrev pub IsBegunBy : NonterminalString → (ℕ → Contents) → ℕ → Production → Type 0
+IsBegunBy start states n q = ((n ≡ 0) × (q.nonterminal ≡ start)) ⊎ IsBehindDot (states n) (Nonterminal q.nonterminal)
+
+-- each production with the dot at the start in the state is of the start symbol in state 0, or its
+-- nonterminal is after a dot in the state; the productions of each nonterminal after a dot are in
+-- the state, with the dot at the start
+pub record IsExpandedAt (g : List Production) (start : NonterminalString) (states : ℕ → Contents) (n : ℕ) : Type 0 where
+  pub begun : (q : Production) → Contains (states n).items (q, 0) → IsBegunBy start states n q
+  pub expanded : (q : Production) → Contains g q → IsBehindDot (states n) (Nonterminal q.nonterminal) → Contains (states n).items (q, 0)
+
+-- this holds of each of the states below the count, whether it is reached or not
+abbrev pub AreExpanded : List Production → NonterminalString → (ℕ → Contents) → ℕ → Type 0
+AreExpanded g start states count = (n : ℕ) → n < count → IsExpandedAt g start states n
+
+-- the pass is over states of a grammar that are closed and expanded, with these states by number,
 -- the suffixes of dotted productions, and the nodes of the follow graph
 pub record IsPass (pass : Pass) : Type 0 where
   pub well_formed : IsWellFormed pass.grammar.now
@@ -99,7 +114,7 @@ pub record IsPass (pass : Pass) : Type 0 where
   pub coherent : AreCoherent pass.states.now
   pub some : 0 < length pass.states.now
   pub closed : AreClosed (rules_of pass.grammar.now).productions pass.name.now (places_in pass.states.now)
-  pub reached : AreAllReached (places_in pass.states.now) (length pass.states.now)
+  pub expanded : AreExpanded (rules_of pass.grammar.now).productions pass.name.now (places_in pass.states.now) (length pass.states.now)
   pub own : AreItemsOfGrammar (rules_of pass.grammar.now).productions (places_in pass.states.now)
   pub numbered : AreNumberedStates pass.numbers.now pass.states.now pass.numbered.now
   pub suffixes : AreSuffixes (rules_of pass.grammar.now) pass.numbers.now.items.items pass.suffixes.now

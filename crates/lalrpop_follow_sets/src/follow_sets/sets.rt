@@ -1,7 +1,7 @@
 //! The result of one pass over states.
 ghost use Rattle.std.specs.Prelude.{◌<◌, ◌↔◌, ℕ, length, Contains, IfOk, IsTrue};
 ghost use Rattle.lalrpop_base.specs.Words.{AreClosed, AreCoherent, IsWellFormed, has, rules_of, AreNumbers};
-ghost use Rattle.lalrpop_follow_sets.specs.follow_sets.FollowNodes.{AreItemsOfGrammar, AreAllReached, IsPass};
+ghost use Rattle.lalrpop_follow_sets.specs.follow_sets.FollowNodes.{AreAllReached, AreExpanded, AreItemsOfGrammar, IsPass};
 ghost use Rattle.lalrpop_follow_sets.specs.follow_sets.FollowWalks.{AreUnions, FindsLookaheads, HoldsSomeOf, entries_at};
 ghost use Rattle.lalrpop_construction.specs.states.SamePlaces.{places_in};
 ghost use Rattle.lalrpop_construction.specs.states.NumberedStates.{AreNumberedStates};
@@ -72,6 +72,32 @@ impl FollowSets {
         requires closed { AreClosed (rules_of grammar.now).productions name.now
             (places_in states.now) }
         requires reached { AreAllReached (places_in states.now) (length states.now) }
+        requires own { AreItemsOfGrammar (rules_of grammar.now).productions (places_in states.now) }
+        requires numbered { AreNumberedStates numbers.now states.now numbered.now }
+        ensures { IfOk result (FindsLookaheads (rules_of grammar.now) name.now numbers.now
+            (places_in states.now) (length states.now)) }
+    {
+        FollowSets::of_expanded(alloc, grammar, name, states, numbers, numbered)
+    }
+
+    /// Makes the pass over closed states of a grammar, some of which need not be reached. In each
+    /// of them the nonterminals after dots are expanded. `OutOfMemory` if an allocation fails.
+    pub fn of_expanded<'grammar>(
+        alloc: Global,
+        grammar: &'grammar Grammar,
+        name: &NonterminalString,
+        states: &[Lr1State<'grammar>],
+        numbers: &Numbers<'grammar>,
+        numbered: &[NumberedState],
+    ) -> Result<FollowSets, OutOfMemory>
+        requires well_formed { IsWellFormed grammar.now }
+        requires numbers { AreNumbers (rules_of grammar.now) numbers.now }
+        requires coherent { AreCoherent states.now }
+        requires some { 0 < length states.now }
+        requires closed { AreClosed (rules_of grammar.now).productions name.now
+            (places_in states.now) }
+        requires expanded { AreExpanded (rules_of grammar.now).productions name.now
+            (places_in states.now) (length states.now) }
         requires own { AreItemsOfGrammar (rules_of grammar.now).productions (places_in states.now) }
         requires numbered { AreNumberedStates numbers.now states.now numbered.now }
         ensures { IfOk result (FindsLookaheads (rules_of grammar.now) name.now numbers.now

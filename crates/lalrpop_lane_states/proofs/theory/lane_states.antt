@@ -1,4 +1,7 @@
 -- LR(0) states whose reductions hold the tokens of lanes.
+pub mod CopiedNumbers
+pub mod CopiedPasses
+pub mod CopiedShape
 pub mod FoundPlaces
 pub mod FoundResolving
 pub mod FoundSets

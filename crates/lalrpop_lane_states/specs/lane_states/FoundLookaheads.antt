@@ -7,7 +7,7 @@ use Rattle.lalrpop_grammar.specs.declared.repr.NonterminalString.{NonterminalStr
 use Rattle.lalrpop_grammar.specs.declared.repr.Production.{Production}
 use Rattle.lalrpop_follow_sets.specs.follow_sets.FollowWalks.{FindsLookaheads}
 use Rattle.lalrpop_construction.specs.states.SamePlaces.{places_in}
-use Rattle.lalrpop_construction.specs.states.NumberedStates.{AreReducedNumbers, IsNumberedState}
+use Rattle.lalrpop_construction.specs.states.NumberedStates.{AreNumberedStates, AreReducedNumbers, IsNumberedState}
 use Rattle.lalrpop_numbers.specs.declared.numbers.Numbers.{Numbers}
 use Rattle.lalrpop_follow_sets.specs.declared.follow_sets.sets.FollowSets.{FollowSets}
 use Rattle.lalrpop_construction.specs.declared.construction.numbered_state.NumberedState.{NumberedState}
@@ -20,6 +20,13 @@ pub record IsFoundAt (g : Rules) (start : NonterminalString) (states : List (Sta
   pub finds : FindsLookaheads g start numbers (places_in states) (length states) found
   pub numbered : IsNumberedState numbers (places_in states n) state
   pub reduced : (old : State Bits) → slice_get states n ≡ Some old → AreReducedNumbers numbers.items.items old.reductions.items state.reductions.items
+
+-- the pass found the lookahead sets of all states, and the list has the states by number
+pub record AreFound (g : Rules) (start : NonterminalString) (states : List (State Bits)) (found : FollowSets) (list : List NumberedState) : Type 0 where
+  pub numbers : Numbers
+  pub of_grammar : AreNumbers g numbers
+  pub finds : FindsLookaheads g start numbers (places_in states) (length states) found
+  pub numbered : AreNumberedStates numbers states list
 
 -- the reductions, each with the set at its place
 abbrev pub with_sets : List Bits → List (Bits × Bor Production) → List (Bits × Bor Production)

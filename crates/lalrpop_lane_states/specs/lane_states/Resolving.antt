@@ -1,35 +1,35 @@
 -- States that are resolved one after the other, while some are copied.
-use Rattle.std.specs.Prelude.{◌≡◌, ◌≤◌, ◌<◌, ◌+◌, ◌⊎◌, ℕ, Bool, true, false, List, length, slice_get, Some}
-use Rattle.lalrpop_base.specs.Words.{Bits, Rules}
+use Rattle.std.specs.Prelude.{◌≡◌, ◌≤◌, ◌<◌, ◌+◌, ◌⊎◌, ℕ, Bool, true, false, List, length, map, slice_get, Some}
+use Rattle.lalrpop_base.specs.Words.{Bits, Rules, number_in}
 use Rattle.lalrpop_states.specs.declared.lr1_core.state.Action.{Action}
 use Rattle.lalrpop_states.specs.declared.lr1_core.state.State.{State}
 use Rattle.lalrpop_grammar.specs.declared.repr.NonterminalString.{NonterminalString}
-use Rattle.lalrpop_lane_states.specs.lane_states.LaneStates.{AreLaneStates, AreTraced}
+use Rattle.lalrpop_lane_states.specs.lane_states.LaneStates.{AreLaneStates, AreTraced, IsResolvedAt}
 use Rattle.lalrpop_lane_states.specs.lane_states.Lr0Copies.{AreLr0Copies}
 use Rattle.lalrpop_lanes.specs.lane_tables.LaneTables.{ColumnsOverlap}
 use Rattle.lalrpop_lane_states.specs.lanes.LaneActions.{AreActions, asked_actions}
-use Rattle.lalrpop_construction.specs.states.SamePlaces.{places_in}
+use Rattle.lalrpop_construction.specs.states.SamePlaces.{HaveSamePlaces, places_in}
 use Rattle.lalrpop_state_graph.specs.graphs.Copies.{AreCopies}
 use Rattle.lalrpop_lane_states.specs.merges.Merges.{AreApart}
 use Rattle.lalrpop_state_graph.specs.graphs.StateGraph.{edges, IsGraphOf}
 use Rattle.lalrpop_lane_states.specs.declared.lane_table.construct.copying.Copying.{Copying}
 use Rattle.lalrpop_lanes.specs.declared.lane_table.table.LaneTable.{LaneTable}
 
--- the states are the LR(0) states of the grammar and copies of these; the copies made and those
--- left add up to the limit; the graph is that of the states
-pub record IsResolving (g : Rules) (start : NonterminalString) (copies : ℕ) (copying : Copying) : Type 0 where
-  pub handed : List (State Bits)
+-- the states are the LR(0) states of the grammar, which were handed in, and copies of these, each
+-- with the number of its original; the copies made and those left add up to the limit; the graph is
+-- that of the states
+pub record IsResolving (g : Rules) (start : NonterminalString) (copies : ℕ) (handed : List (State Bits)) (copying : Copying) : Type 0 where
   pub made : AreLaneStates g start handed
-  pub originals : List ℕ
-  pub each : AreCopies false handed originals copying.states.items
+  pub each : AreCopies false handed copying.originals.items copying.states.items
   pub counted : copying.copies_left + length copying.states.items ≡ copies + length handed
   pub graph : IsGraphOf (edges copying.states.items) copying.graph
 
--- the new states are the old ones and copies of them; each copy lowers the number of copies left;
--- the graph is that of the new states
+-- the new states are the old ones and copies of them, each with the number of its first original;
+-- each copy lowers the number of copies left; the graph is that of the new states
 pub record IsCopied (old new : Copying) : Type 0 where
   pub originals : List ℕ
   pub each : AreCopies false old.states.items originals new.states.items
+  pub first : new.originals.items ≡ map (number_in old.originals.items) originals
   pub counted : new.copies_left + length new.states.items ≡ old.copies_left + length old.states.items
   pub graph : IsGraphOf (edges new.states.items) new.graph
 
@@ -49,6 +49,15 @@ pub record IsResolveStep (index : ℕ) (resolved : Bool) (old new : List (State 
   pub apart : resolved ≡ true → IsApartAt new index
   pub kept : (n : ℕ) → (resolved ≡ true → n ≡ index → ⊥) → HasSameReductions old new n
   pub longer : length old ≤ length new
+
+-- the states from the first number up to the end hold exactly the tokens of their lanes, and have
+-- no conflict; all other states kept their reductions, and no state changed in anything else
+pub record AreResolvedBetween (g : Rules) (start : NonterminalString) (first end : ℕ) (old new : List (State Bits)) : Type 0 where
+  pub begun : first ≤ end
+  pub within : end ≤ length new
+  pub same : HaveSamePlaces old new
+  pub resolved : (n : ℕ) → first ≤ n → n < end → IsResolvedAt g start old n new
+  pub kept : (n : ℕ) → (first ≤ n → n < end → ⊥) → HasSameReductions old new n
 
 -- the lanes of two actions of the state with the number share a token, over LR(0) states and copies
 -- of these

@@ -1,9 +1,11 @@
 //! The construction of lane tables.
 mod actions;
+mod copied_numbers;
 mod copying;
 mod lookaheads;
 pub mod merge;
 mod merging;
+mod passes;
 mod promote;
 mod resolving;
 pub mod state_set;
@@ -142,7 +144,7 @@ impl<'grammar> LaneTableConstruct<'grammar> {
         let Some(first) = self.resolve_states(alloc, numbers, &numbered, &mut states)? else {
             return Ok((states, true));
         };
-        let states = self.resolve_copied(alloc, states, first)?;
+        let states = self.resolve_copied(alloc, numbers, &numbered, states, first)?;
         Ok((states, false))
     }
 }

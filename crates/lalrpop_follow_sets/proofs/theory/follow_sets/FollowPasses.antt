@@ -4,20 +4,20 @@ use Rattle.std.specs.Prelude.{Contains, slice_get}
 use Rattle.std.specs.declared.alloc.Global.{Global}
 use Rattle.std.specs.declared.vec.Vec.{Vec}
 use Rattle.std.proofs.lemmas.Option.{slice_get_within}
-use Rattle.lalrpop_base.specs.Words.{Bits, contents_at, Contents, items_of, IsReached, Rules, rules_of}
+use Rattle.lalrpop_base.specs.Words.{Bits, contents_at, Contents, items_of, Rules, rules_of}
 use Rattle.lalrpop_follow_sets.specs.Words.{HaveNodesAtStart, IncludesFollow, IsFollowGraph, IsFollowNode}
 use Rattle.lalrpop_base.specs.Words.{with_dot, AreNumbers, IsBehindDot}
 use Rattle.lalrpop_follow_sets.proofs.Types.{NonterminalString, Production, State, Symbol, Token}
 use Rattle.lalrpop_grammar.specs.declared.repr.Symbol.TheVariants.{Nonterminal}
 use Rattle.lalrpop_states.proofs.theory.states.ContentsViews.{lead_as_items_say}
 use Rattle.lalrpop_construction.specs.Words.{places_in}
-use Rattle.lalrpop_follow_sets.specs.follow_sets.FollowNodes.{IsPass, nodes_of}
+use Rattle.lalrpop_follow_sets.specs.follow_sets.FollowNodes.{IsExpandedAt, IsPass, nodes_of}
 use Rattle.lalrpop_follow_sets.specs.follow_sets.FollowWalks.{AreInitialSets, AreIncludes, GoesThrough}
 use Rattle.lalrpop_construction.specs.states.NumberedStates.{transitions_at}
 use Rattle.lalrpop_numbers.specs.declared.numbers.Numbers.{Numbers}
 use Rattle.lalrpop_follow_sets.specs.declared.follow_sets.pass.Pass.{Pass}
 use Rattle.lalrpop_states.proofs.theory.closures.Closing.{split_drop}
-use Rattle.lalrpop_follow_sets.proofs.theory.follow_sets.FollowClosures.{front_begun, front_expanded, front_started, walked_item}
+use Rattle.lalrpop_follow_sets.proofs.theory.follow_sets.FollowClosures.{front_started, walked_item}
 use Rattle.lalrpop_follow_sets.proofs.theory.follow_sets.FollowGraphs.{included_node}
 use Rattle.lalrpop_follow_sets.proofs.theory.follow_sets.FollowNodes.{node_cases, start_node, transition_leads, transition_node}
 use Rattle.lalrpop_follow_sets.proofs.theory.follow_sets.FollowSets.{within}
@@ -39,13 +39,13 @@ module _ (pass : Pass) (fits : IsPass pass) where
   abbrev nodes : List (ℕ × NonterminalString)
   nodes = nodes_of pass
 
-  -- a state with an item is reached
-  item_reached : (n : ℕ) (q : Production) (dot : ℕ) → items_of places n q dot → IsReached places n
-  item_reached n q dot h = by_case (slice_get pass.states.now n) refl h
+  -- a state with an item is expanded
+  item_expanded : (n : ℕ) (q : Production) (dot : ℕ) → items_of places n q dot → IsExpandedAt g.productions pass.name.now places n
+  item_expanded n q dot h = by_case (slice_get pass.states.now n) refl h
     where
-      by_case : (o : Option (State Bits)) → slice_get pass.states.now n ≡ o → Contains (contents_at (λ lookahead (t : Token). true) o).items (q, dot) → IsReached places n
+      by_case : (o : Option (State Bits)) → slice_get pass.states.now n ≡ o → Contains (contents_at (λ lookahead (t : Token). true) o).items (q, dot) → IsExpandedAt g.productions pass.name.now places n
       by_case None e k = absurd (let l = k.1 in omega arith)
-      by_case (Some state) e k = fits.reached n (slice_get_within pass.states.now n state e)
+      by_case (Some state) e k = fits.expanded n (slice_get_within pass.states.now n state e)
 
   -- a nonterminal with a transition is a node
   goto_node : (s m : ℕ) (a : NonterminalString) (x : ℕ) → (places s).goto a ≡ Some m → slice_get pass.numbers.now.symbols.items x ≡ Some (Nonterminal a) → (n : ℕ) × IsFollowNode nodes n s a
@@ -72,7 +72,7 @@ module _ (pass : Pass) (fits : IsPass pass) where
 
   -- each item with the dot at the start has a node for its nonterminal
   pub begun_nodes : HaveNodesAtStart places nodes
-  begun_nodes r q item = elim (front_begun g.productions pass.name.now places fits.closed (item_reached r q 0 item) q item) [
+  begun_nodes r q item = elim ((item_expanded r q 0 item).begun q item) [
     | inl first ↦
         let n = start_node pass fits in
         (n.0, n.1 ∙ ap (λ (s : ℕ). Some (s, pass.name.now)) (sym first.0) ∙ ap (λ (a : NonterminalString). Some (r, a)) (sym first.1))
@@ -86,7 +86,7 @@ module _ (pass : Pass) (fits : IsPass pass) where
     | inl first ↦ subst (λ (k : ℕ). items_of places k q 0) (sym first.0) (front_started g.productions pass.name.now places fits.closed q own first.1)
     | inr edge ↦
         let b = (fits.closed.edges s (Nonterminal q.nonterminal)).0 edge in
-        front_expanded g.productions pass.name.now places fits.closed (item_reached s b.production b.dot b.item) q own b
+        (item_expanded s b.production b.dot b.item).expanded q own b
   ]
 
   -- two nodes with one number are the same

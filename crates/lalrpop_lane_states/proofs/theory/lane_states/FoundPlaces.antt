@@ -11,7 +11,7 @@ use Rattle.lalrpop_lane_states.proofs.Types.{Nil, NonterminalString, Production,
 use Rattle.lalrpop_collections.proofs.theory.lists.Lists.{some_of_map}
 use Rattle.lalrpop_follow_sets.specs.follow_sets.FollowWalks.{FindsLookaheads}
 use Rattle.lalrpop_construction.specs.states.NumberedStates.{AreNumberedStates, AreReducedNumbers, IsNumberedState}
-use Rattle.lalrpop_construction.specs.Words.{by, HasSamePlace, HaveSamePlaces, places_in}
+use Rattle.lalrpop_construction.specs.Words.{by, HaveSamePlaces, places_in}
 use Rattle.lalrpop_numbers.specs.declared.numbers.Numbers.{Numbers}
 use Rattle.lalrpop_follow_sets.specs.declared.follow_sets.sets.FollowSets.{FollowSets}
 use Rattle.lalrpop_construction.specs.declared.construction.numbered_state.NumberedState.{NumberedState}
@@ -53,21 +53,18 @@ state_there n a b same state h = record {
   );
 }
 
--- the numbers of its reductions are those of each state with the same place
-reduced_there : (items : List (Dotted Nil)) (before after : State Bits) → HasSamePlace before after → (numbers : List ℕ) → AreReducedNumbers items before.reductions.items numbers → AreReducedNumbers items after.reductions.items numbers
-reduced_there items before after same numbers h =
-    let old : List (Bits × Bor Production) = before.reductions.items in
-    let new : List (Bits × Bor Production) = after.reductions.items in
-    record {
-      counted = h.counted ∙ sym (by_counted old new same.reduced);
-      each = λ j k r at_r at_k.
-          let q = some_of_map by (slice_get old j) r.1.now (sym (slice_get-map by old j) ∙ ap (λ (ps : List Production). slice_get ps j) (sym same.reduced) ∙ slice_get-map by new j ∙ ap (option_map by) at_r) in
-          h.each j k q.0 q.1 at_k ∙ ap (λ (p : Production). Some (with_dot p (length p.symbols))) q.2;
-    }
+-- the numbers of reductions are those of all reductions by the same productions
+pub reduced_by : (items : List (Dotted Nil)) (old new : List (Bits × Bor Production)) → map by new ≡ map by old → (numbers : List ℕ) → AreReducedNumbers items old numbers → AreReducedNumbers items new numbers
+reduced_by items old new same numbers h = record {
+  counted = h.counted ∙ sym by_counted;
+  each = λ j k r at_r at_k.
+      let q = some_of_map by (slice_get old j) r.1.now (sym (slice_get-map by old j) ∙ ap (λ (ps : List Production). slice_get ps j) (sym same) ∙ slice_get-map by new j ∙ ap (option_map by) at_r) in
+      h.each j k q.0 q.1 at_k ∙ ap (λ (p : Production). Some (with_dot p (length p.symbols))) q.2;
+}
   where
     -- there are as many reductions
-    by_counted : (old new : List (Bits × Bor Production)) → map by new ≡ map by old → length new ≡ length old
-    by_counted old new e = sym (length-map new by) ∙ ap length e ∙ length-map old by
+    by_counted : length new ≡ length old
+    by_counted = sym (length-map new by) ∙ ap length same ∙ length-map old by
 
 -- the states by number stay
 pub numbered_on : (n : Numbers) (old new : List (State Bits)) → HaveSamePlaces old new → (list : List NumberedState) → AreNumberedStates n old list → AreNumberedStates n new list
@@ -76,5 +73,5 @@ numbered_on n old new same list h = record {
   each = λ s state at. state_there n (places_in old s) (places_in new s) (places_same _ _ old new same s) state (h.each s state at);
   reduced = λ s after state at_new at.
       let o = old_at old new same s after at_new in
-      reduced_there n.items.items o.0 after o.2 state.reductions.items (h.reduced s o.0 state o.1 at);
+      reduced_by n.items.items o.0.reductions.items after.reductions.items (o.2).reduced state.reductions.items (h.reduced s o.0 state o.1 at);
 }

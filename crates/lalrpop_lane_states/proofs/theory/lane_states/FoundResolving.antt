@@ -12,7 +12,7 @@ use Rattle.lalrpop_grammar.specs.declared.lookahead.token.Token.TheVariants.{Ter
 use Rattle.lalrpop_states.specs.declared.lr1_core.state.Items.{Items}
 use Rattle.lalrpop_grammar.specs.declared.repr.Symbol.TheVariants.{Terminal}
 use Rattle.lalrpop_states.proofs.theory.states.HeldTokens.{place_there}
-use Rattle.lalrpop_lane_states.specs.Words.{AreLaneStates, IsResolvedAt, IsStateStep}
+use Rattle.lalrpop_lane_states.specs.Words.{AreLr0Copies, IsResolvedAt, IsStateStep}
 use Rattle.lalrpop_construction.specs.Words.{by, dot_of, places_in}
 use Rattle.lalrpop_follow_sets.specs.Words.{IsLaneAction, IsResolved, LanesMeet}
 use Rattle.lalrpop_follow_sets.specs.follow_sets.FollowWalks.{AreUnions, entries_at, HoldsSomeOf, ShareBits, with_first, with_other}
@@ -26,7 +26,7 @@ use Rattle.lalrpop_lane_states.proofs.theory.lane_states.FoundSets.{CodeReductio
 use Rattle.lalrpop_lane_states.proofs.theory.lane_states.LaneLoop.{set_step}
 use Rattle.lalrpop_follow_sets.proofs.theory.lane_states.LanePlaces.{AreSamePlaces, lane_there, places_same, place_itself}
 use Rattle.lalrpop_lane_states.proofs.theory.lane_states.LaneResolved.{one_token}
-use Rattle.lalrpop_lane_states.proofs.theory.lane_states.LaneShape.{here_closed, item_own, reduced_item, reduced_once}
+use Rattle.lalrpop_lane_states.proofs.theory.lane_states.CopiedShape.{copied_item, places_closed, reduced_item, reduced_once}
 use Rattle.lalrpop_states.proofs.theory.collapse.Merging.{set_here}
 use Rattle.lalrpop_collections.proofs.theory.lists.Places.{filled, same_some}
 use Rattle.lalrpop_construction.proofs.theory.construction.StateEdges.{transition_leads}
@@ -48,7 +48,7 @@ meet_there g start a b same n m = record {
   there = action_there g start a b same n m.token m.second m.there;
 }
 
-module _ (g : Rules) (start : NonterminalString) (states : List (State Bits)) (made : AreLaneStates g start states) (n : ℕ) (found : FollowSets) (numbered : NumberedState) (fits : IsFoundAt g start states n found numbered)
+module _ (g : Rules) (start : NonterminalString) (copies : ℕ) (states : List (State Bits)) (made : AreLr0Copies g start copies states) (n : ℕ) (found : FollowSets) (numbered : NumberedState) (fits : IsFoundAt g start states n found numbered)
     (state : State Bits) (at : slice_get states n ≡ Some state) (sets : List Bits) (unions : AreUnions found.follow.items (entries_at found.lookback.items n) numbered.reductions.items sets) where
   abbrev any : Bits → Token → Bool
   any lookahead t = true
@@ -72,7 +72,7 @@ module _ (g : Rules) (start : NonterminalString) (states : List (State Bits)) (m
 
   -- each reduction is of a finished item
   finished : (r : CodeReduction) → Contains reductions r → Contains (places n).items (r.1.now, length r.1.now.symbols)
-  finished r among = reduced_item g start states made any n state r at among
+  finished r among = reduced_item g start copies states made n state r at among
 
   -- the set at the place of a reduction is its lookahead set
   set_lookahead : (j : ℕ) (set : Bits) (r : CodeReduction) → slice_get sets j ≡ Some set → slice_get reductions j ≡ Some r → HasLookaheadBits g start places n set r.1.now
@@ -92,8 +92,8 @@ module _ (g : Rules) (start : NonterminalString) (states : List (State Bits)) (m
     shift_bit t target bit entry place =
         let edge = transition_leads any state (Terminal t) target entry in
         let here : leads (places n) (Terminal t) ≡ Some edge.0.0 = ap (λ (s : Contents). leads s (Terminal t)) (ap (contents_at any) at) ∙ edge.1 in
-        let b = ((here_closed g start states made any).edges n (Terminal t)).0 (edge.0.0, here) in
-        let own = item_own g start states made any n state b.production b.dot at (subst (λ (s : Contents). Contains s.items (b.production, b.dot)) (ap (contents_at any) at) b.item) in
+        let b = ((places_closed g start copies states made).edges n (Terminal t)).0 (edge.0.0, here) in
+        let own = copied_item g start copies states made n state b.production b.dot at (subst (λ (s : Contents). Contains s.items (b.production, b.dot)) (ap (contents_at any) at) b.item) in
         let x = numbered_behind g fits.numbers fits.of_grammar b.production b.dot (Terminal t) b.after own b.behind in
         (tokens bit).1 (x.0, edge.0.0, (fits.numbered.edges x.0 edge.0.0 (Terminal t) x.1).1 here, (fits.finds.tokens.each x.0 bit (Terminal t) x.1).1 (t, refl, place_there g.terminals t bit place))
 
@@ -170,7 +170,7 @@ module _ (g : Rules) (start : NonterminalString) (states : List (State Bits)) (m
         let a = holds_token_at i bit h in
         let b = holds_token_at j bit k in
         let one : (b.among).0 ≡ (a.among).0 = one_token g.terminals (b.among).0 (a.among).0 bit (b.among).1 (a.among).1 in
-        reductions_meet g.productions start places n a.reduction.1.now b.reduction.1.now (a.among).0 (reduced_once g start states made any n state at i j a.reduction b.reduction l a.there b.there)
+        reductions_meet g.productions start places n a.reduction.1.now b.reduction.1.now (a.among).0 (reduced_once g start copies states made n state at i j a.reduction b.reduction l a.there b.there)
         a.item b.item (a.among).2 (subst (IsLookahead g.productions start places n b.reduction.1.now) one (b.among).2)
 
     -- the two actions share the token over the contents of the states, too

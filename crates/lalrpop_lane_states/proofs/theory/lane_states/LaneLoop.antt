@@ -90,7 +90,7 @@ lane_states_on g start index old new step made =
 pub graph_on : (old new : List (State Bits)) (graph : StateGraph) → HaveSamePlaces old new → IsGraphOf (edges old) graph → IsGraphOf (edges new) graph
 graph_on old new graph same h = subst (λ es. IsGraphOf es graph) (sym (edges_there old new same)) h
 
-bits_on : (g : Rules) (start : NonterminalString) (a b : ℕ → Contents) → AreSamePlaces a b → (n : ℕ) (state : State Bits) → IsResolved g start a n state → IsResolved g start b n state
+pub bits_on : (g : Rules) (start : NonterminalString) (a b : ℕ → Contents) → AreSamePlaces a b → (n : ℕ) (state : State Bits) → IsResolved g start a n state → IsResolved g start b n state
 bits_on g start a b same n state h = record {
   holds = λ r among bit. (
     λ has_bit. let k = (h.holds r among bit).0 has_bit in (k.0, k.1, lane_there g.productions start a b same n r.1.now (length r.1.now.symbols) k.0 k.2),

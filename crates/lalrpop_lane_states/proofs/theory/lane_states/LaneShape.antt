@@ -1,9 +1,8 @@
 -- Properties of the LR(0) states of a grammar with some tokens.
-use Rattle.std.proofs.Common.{◌≡◌, ℕ, ◌<◌, Bool, List, length, refl, sym, ◌∙◌, ap, subst, arith, Option, Some, None, option_map, true}
+use Rattle.std.proofs.Common.{◌≡◌, ℕ, ◌<◌, Bool, List, length, refl, sym, ◌∙◌, ap, subst, arith, Option, Some, None, true}
 use Rattle.std.specs.Prelude.{Contains, slice_get}
-use Rattle.std.specs.Borrow.{Bor}
-use Rattle.std.proofs.lemmas.Option.{slice_get_within, slice_get-map}
-use Rattle.lalrpop_base.specs.Words.{Bits, AreClosed, IsReached, contents_of, contents_at, contents_in, holds_token, reduction_of, AreLr0, Contents}
+use Rattle.std.proofs.lemmas.Option.{slice_get_within}
+use Rattle.lalrpop_base.specs.Words.{Bits, AreClosed, IsReached, contents_of, contents_at, contents_in, holds_token, AreLr0, Contents}
 use Rattle.lalrpop_base.specs.Words.{state_after, ReducesFinished, HasRightItems, IsLive, Rules}
 use Rattle.lalrpop_construction.specs.Words.{on_any, lr0_contents}
 use Rattle.lalrpop_grammar.specs.states.States.{Reduction}
@@ -73,20 +72,6 @@ module _ (g : Rules) (start : NonterminalString) (states : List (State Bits)) (m
         by_case (Some s) e c =
             let a = right_at n (slice_get_within states n s e) in
             reached_at g.productions start here here_closed (grown a.prefix) n a.after
-
-    -- a reduction of the code's state is by one of its finished productions
-    pub reduced_item : (n : ℕ) (state : State Bits) (r : Bits × Bor Production) → slice_get states n ≡ Some state → Contains state.reductions.items r → Contains (here n).items (r.1.now, length r.1.now.symbols)
-    reduced_item n state r at among =
-        let c : Contains (here n).reductions (reduction_of holds r) = subst (λ (s : Contents). Contains s.reductions (reduction_of holds r)) (sym (ap (contents_at holds) at)) (contains_map (reduction_of holds) state.reductions.items r among) in
-        ((here_reduces n).finished r.1.now).0 (reduction_of holds r, c, refl)
-
-    -- no two reductions of a state are by one production
-    pub reduced_once : (n : ℕ) (state : State Bits) → slice_get states n ≡ Some state → (i j : ℕ) (r q : Bits × Bor Production) → i < j → slice_get state.reductions.items i ≡ Some r → slice_get state.reductions.items j ≡ Some q → r.1.now ≡ q.1.now → ⊥
-    reduced_once n state at i j r q l at_i at_j e =
-        let once = (subst ReducesFinished (ap (contents_at holds) at) (here_reduces n)).once in
-        once i j (reduction_of holds r) (reduction_of holds q) l
-        (slice_get-map (reduction_of holds) state.reductions.items i ∙ ap (option_map (reduction_of holds)) at_i)
-        (slice_get-map (reduction_of holds) state.reductions.items j ∙ ap (option_map (reduction_of holds)) at_j) e
 
   pub own_items : HaveOwnItems g.productions states
   own_items n state item at among =

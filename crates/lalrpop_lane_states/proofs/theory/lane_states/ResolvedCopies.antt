@@ -1,21 +1,26 @@
 -- Which states are resolved, and which keep their reductions.
 use Rattle.std.proofs.Common.{◌≡◌, ℕ, ◌+◌, Result, Ok, Err, IfOk, ◌<◌, ◌≤◌, inl, inr, Bool, true, false, List, length, Some, refl, slice_set, sym, ap, subst, ◌∙◌, arith}
 use Rattle.std.specs.Prelude.{slice_get}
+use Rattle.std.specs.Borrow.{Bor}
 use Rattle.std.proofs.lemmas.Bool.{cases_lt}
 use Rattle.std.proofs.lemmas.Option.{slice_get_within}
 use Rattle.lalrpop_base.specs.Words.{Bits, Rules}
-use Rattle.lalrpop_lane_states.proofs.Types.{Action, NonterminalString, State, StateIndex}
-use Rattle.lalrpop_lane_states.specs.Words.{Advances, AreApart, AreResolvedUpTo, HasOverlap, HasSameReductions, IsApartAt, IsAttempted, IsMerging, IsResolvedCopy, IsResolveStep}
+use Rattle.lalrpop_lane_states.proofs.Types.{Action, NonterminalString, Production, State, StateIndex}
+use Rattle.lalrpop_lane_states.specs.Words.{Advances, AreApart, AreResolvedBetween, AreResolvedUpTo, HasOverlap, HasSameReductions, IsApartAt, IsAttempted, IsMerging, IsResolvedAt, IsResolvedCopy, IsResolving, IsResolveStep}
 use Rattle.lalrpop_state_graph.specs.Words.{AreCopies}
+use Rattle.lalrpop_construction.specs.states.NumberedStates.{AreNumberedStates}
+use Rattle.lalrpop_construction.specs.declared.construction.numbered_state.NumberedState.{NumberedState}
+use Rattle.lalrpop_numbers.specs.declared.numbers.Numbers.{Numbers}
 use Rattle.lalrpop_lane_states.specs.declared.lane_table.construct.copying.Copying.{Copying}
 use Rattle.lalrpop_lane_states.specs.declared.lane_table.construct.merge.Merge.{Merge}
 use Rattle.lalrpop_lanes.specs.declared.lane_table.table.LaneTable.{LaneTable}
+use Rattle.lalrpop_follow_sets.proofs.theory.lane_states.LanePlaces.{place_itself}
 use Rattle.lalrpop_lane_states.proofs.theory.lane_states.LaneLoop.{set_step}
 use Rattle.lalrpop_lane_states.proofs.theory.lane_states.LaneResolved.{applied_same}
 use Rattle.lalrpop_state_graph.proofs.theory.graphs.GraphCopies.{number_at}
 use Rattle.lalrpop_lane_states.proofs.theory.merges.LanePatches.{taken_apart}
 use Rattle.lalrpop_states.proofs.theory.collapse.Merging.{set_here}
-use Rattle.lalrpop_collections.proofs.theory.lists.Places.{filled, same_some}
+use Rattle.lalrpop_collections.proofs.theory.lists.Places.{filled, places_apart, same_some}
 
 -- ---- one state
 same_reductions : (states : List (State Bits)) (n : ℕ) → HasSameReductions states states n
@@ -129,6 +134,65 @@ module _ (first index : ℕ) (handed old new : List (State Bits)) (below : AreRe
     left = λ n l. behind_it n l (λ held here. cc);
     ends = inr overlap;
   }
+
+-- ---- a pass
+-- no two reductions of a resolved state share a token
+resolved_apart : (g : Rules) (start : NonterminalString) (old new : List (State Bits)) (n : ℕ) → IsResolvedAt g start old n new → IsApartAt new n
+resolved_apart g start old new n h state at i j bit r q at_i at_j here there =
+    let free = (h state at).free in
+    elim (places_apart i j) [
+      | inl before ↦ absurd (free.reductions i j bit r q before at_i at_j here there)
+      | inr other ↦ elim other [
+        | inl behind ↦ absurd (free.reductions j i bit q r behind at_j at_i there here)
+        | inr e ↦ ap (λ (x : Bits × Bor Production). x.1.now) (same_some r q (sym at_i ∙ ap (slice_get state.reductions.items) e ∙ at_j))
+      ]
+    ]
+
+module _ (g : Rules) (start : NonterminalString) (first index end : ℕ) (handed old new : List (State Bits)) (below : AreResolvedBelow first index handed old) (b : AreResolvedBetween g start index end old new) where
+  kept_through : (n : ℕ) → HasSameReductions handed old n → (index ≤ n → n < end → ⊥) → HasSameReductions handed new n
+  kept_through n same other before after was is =
+      let middle = filled old n (let w = slice_get_within handed n before was in let k = below.longer in omega arith) in
+      b.kept n other middle.0 after middle.1 is ∙ same before middle.0 was middle.1
+
+  still_apart : (n : ℕ) → first ≤ n → n < index → IsApartAt new n
+  still_apart n l m state at =
+      let was = filled old n (let w = slice_get_within new n state at in let k = (b.same).counted in omega arith) in
+      let same = b.kept n (λ from to. absurd (omega (arith, from, m))) was.0 state was.1 at in
+      subst (λ rs. AreApart rs) (sym same) (below.resolved n l m was.0 was.1)
+
+  pub below_between : AreResolvedBelow first end handed new
+  below_between = record {
+    reached = let k = below.reached in let l = b.begun in omega arith;
+    before = λ n l. kept_through n (below.before n l) (λ from to. let k = below.reached in absurd (omega (arith, from, l)));
+    resolved = λ n l m. elim (cases_lt n index) [
+      | inl less ↦ still_apart n l less
+      | inr most ↦ resolved_apart g start old new n (b.resolved n most m)
+    ];
+    left = λ n l. kept_through n (below.left n (let k = b.begun in omega arith)) (λ from to. absurd (omega (arith, l, to)));
+    longer = let k = below.longer in let c = (b.same).counted in omega arith;
+  }
+
+-- a pass may resolve no state
+pub resolved_nothing : (g : Rules) (start : NonterminalString) (first : ℕ) (states : List (State Bits)) → first ≤ length states → AreResolvedBetween g start first first states states
+resolved_nothing g start first states within = record { begun = omega arith; within = within; same = place_itself states; resolved = λ n l m. absurd (omega (arith, l, m)); kept = λ n other. same_reductions states n }
+
+-- the invariant of the loop: the states are copies of those that were handed in, which have numbers,
+-- and those from the first number up to the index are resolved
+pub record IsResolvingFrom (g : Rules) (start : NonterminalString) (copies : ℕ) (n : Numbers) (numbered : List NumberedState) (first index : ℕ) (entry now : Copying) : Type 0 where
+  pub handed : List (State Bits)
+  pub numbers : AreNumberedStates n handed numbered
+  pub resolving : IsResolving g start copies handed now
+  pub below : AreResolvedBelow first index entry.states.items now.states.items
+
+-- a turn of the loop: one state is resolved by its lanes, and some of those after it by a pass
+pub resolving_on : (g : Rules) (start : NonterminalString) (copies : ℕ) (n : Numbers) (numbered : List NumberedState) (first index end : ℕ) (entry old middle new : Copying) (done : Bool) → done ≡ true → IsResolvingFrom g start copies n numbered first index entry old → index < length old.states.items → IsResolveStep index done old.states.items middle.states.items →
+    ((handed : List (State Bits)) → IsResolving g start copies handed old → IsResolving g start copies handed middle) → AreResolvedBetween g start (index + 1) end middle.states.items new.states.items → ((handed : List (State Bits)) → IsResolving g start copies handed middle → IsResolving g start copies handed new) → IsResolvingFrom g start copies n numbered first end entry new
+resolving_on g start copies n numbered first index end entry old middle new done held h listed tried one between more = record {
+  handed = h.handed;
+  numbers = h.numbers;
+  resolving = more h.handed (one h.handed h.resolving);
+  below = below_between g start first (index + 1) end entry.states.items middle.states.items new.states.items (below_more first index entry.states.items old.states.items middle.states.items h.below listed done tried held) between;
+}
 
 pub ends_all : (g : Rules) (start : NonterminalString) (copies first index : ℕ) (handed states : List (State Bits)) → AreResolvedBelow first index handed states → (index < length states → ⊥) → AreResolvedUpTo g start copies first (length states) handed states
 ends_all g start copies first index handed states below past = record {

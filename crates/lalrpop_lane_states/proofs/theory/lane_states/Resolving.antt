@@ -1,16 +1,18 @@
 -- States that are resolved while some are copied stay LR(0) states and copies of these.
-use Rattle.std.proofs.Common.{◌≡◌, ℕ, zero, suc, ◌+◌, ◌<◌, ◌≤◌, inl, inr, Bool, true, false, List, [], ◌∷◌, map, length, Some, refl, slice_set, sym, ap, subst, ◌∙◌, arith, Result, Ok, Err, IfOk}
+use Rattle.std.proofs.Common.{◌≡◌, ℕ, zero, suc, ◌+◌, ◌<◌, ◌≤◌, inl, inr, Bool, true, false, List, [], ◌∷◌, ◌++◌, map, get_or, length, length-append, append_assoc, Some, take, refl, slice_set, sym, ap, subst, ◌∙◌, arith, Result, Ok, Err, IfOk}
 use Rattle.std.specs.Prelude.{slice_get, unwrap_or, option_map}
 use Rattle.std.specs.Borrow.{Bor}
+use Rattle.std.specs.BTreeMap.{BTreeMap}
 use Rattle.std.specs.declared.alloc.Global.{Global}
 use Rattle.std.specs.declared.vec.Vec.{Vec}
-use Rattle.std.proofs.lemmas.Bool.{cases_lt}
-use Rattle.std.proofs.lemmas.List.{length-map}
-use Rattle.std.proofs.lemmas.Option.{slice_get_within, slice_get_past, slice_get-map}
+use Rattle.std.proofs.lemmas.Bool.{cases_eq, cases_lt}
+use Rattle.std.proofs.lemmas.List.{length-map, map-append, take_more}
+use Rattle.std.proofs.lemmas.Option.{slice_get_within, slice_get_past, slice_get-get_or, slice_get-map}
 use Rattle.lalrpop_base.specs.Words.{Bits, AreCoherent, Rules, number_in, retargeted, retargeted_all}
 use Rattle.lalrpop_lanes.specs.Words.{AreAmong}
+use Rattle.lalrpop_states.specs.declared.lr1_core.state.Items.{Items}
 use Rattle.lalrpop_lane_states.proofs.Types.{Action, NonterminalString, State, StateIndex, TerminalString}
-use Rattle.lalrpop_lane_states.specs.Words.{Advances, AreActions, AreLr0Copies, IsCopied, IsAttempted, IsMerging, IsPatchable, IsResolving}
+use Rattle.lalrpop_lane_states.specs.Words.{Advances, AreActions, AreLr0Copies, IsCopied, IsAttempted, IsMerging, IsPatchable, IsResolving, IsStateStep}
 use Rattle.lalrpop_state_graph.specs.Words.{AreCopies, IsCopyOf}
 use Rattle.lalrpop_lane_states.specs.Words.{asked_actions}
 use Rattle.lalrpop_state_graph.specs.Words.{edges, index, IsGraphOf}
@@ -19,12 +21,11 @@ use Rattle.lalrpop_lane_states.specs.declared.lane_table.construct.copying.Copyi
 use Rattle.lalrpop_lane_states.specs.declared.lane_table.construct.merge.Merge.{Merge}
 use Rattle.lalrpop_lanes.specs.declared.lane_table.table.LaneTable.{LaneTable}
 use Rattle.lalrpop_lane_states.proofs.theory.lanes.LaneAsked.{asked_some}
-use Rattle.lalrpop_lane_states.proofs.theory.merges.LaneCopies.{copies_own, copies_taken, copies_weaker}
+use Rattle.lalrpop_lane_states.proofs.theory.merges.LaneCopies.{copies_own, copies_weaker}
 use Rattle.lalrpop_state_graph.proofs.theory.graphs.GraphCopies.{number_at}
 use Rattle.lalrpop_lane_states.proofs.theory.lane_states.LaneLoop.{graph_on, set_step, step_places}
 use Rattle.lalrpop_lane_states.proofs.theory.lane_states.LaneResolved.{applied_same}
-use Rattle.lalrpop_states.proofs.theory.collapse.Merging.{set_here}
-use Rattle.lalrpop_collections.proofs.theory.lists.Places.{filled}
+use Rattle.lalrpop_collections.proofs.theory.lists.Places.{filled, same_some, slice_get-append_behind}
 use Rattle.lalrpop_collections.proofs.theory.lists.Lists.{place_contains}
 
 -- ---- copies of copies
@@ -106,65 +107,115 @@ pub no_copies : (states : List (State Bits)) → AreCoherent states → AreCopie
 no_copies states coherent =
     copies_weaker true states (own_numbers states) states (copies_own (own_numbers states) states coherent (own_counted 0 (length states)) (λ n l. own_at 0 (length states) n l ∙ ap Some (let e : 0 + n ≡ n = omega arith in e)))
 
-pub copied_none : (copying : Copying) → AreCoherent copying.states.items → IsGraphOf (edges copying.states.items) copying.graph → IsCopied copying copying
-copied_none copying coherent graph = record {
+-- states are copies of themselves, each with its own number
+pub own_copies : (states : List (State Bits)) (originals : List ℕ) → AreCoherent states → length originals ≡ length states → ((n : ℕ) → n < length states → slice_get originals n ≡ Some n) → AreCopies false states originals states
+own_copies states originals coherent counted own = copies_weaker true states originals states (copies_own originals states coherent counted own)
+
+-- a list of numbers, as the numbers at its own places
+own_from : (front xs : List ℕ) (n : ℕ) → n ≡ length front → map (number_in (front ++ xs)) (own_numbers_from n (length xs)) ≡ xs
+own_from front [] n e = refl
+own_from front (x ∷ xs) n e =
+    let all : List ℕ = front ++ x ∷ xs in
+    let at : slice_get all n ≡ Some x = ap (slice_get all) (let k : n ≡ length front + 0 = omega arith in k) ∙ slice_get-append_behind front (x ∷ xs) 0 in
+    let more : (front ++ x ∷ []) ++ xs ≡ all = append_assoc front (x ∷ []) xs in
+    let last : suc n ≡ length (front ++ x ∷ []) = let l = length-append front (x ∷ []) in omega arith in
+    ap (λ (y : ℕ). y ∷ map (number_in all) (own_numbers_from (suc n) (length xs))) (number_at all n x at)
+    ∙ ap (λ (ys : List ℕ). x ∷ ys) (ap (λ (zs : List ℕ). map (number_in zs) (own_numbers_from (suc n) (length xs))) (sym more) ∙ own_from (front ++ x ∷ []) xs (suc n) last)
+
+pub copied_none : (copying : Copying) → AreCoherent copying.states.items → length copying.originals.items ≡ length copying.states.items → IsGraphOf (edges copying.states.items) copying.graph → IsCopied copying copying
+copied_none copying coherent named graph = record {
   originals = own_numbers copying.states.items;
   each = no_copies copying.states.items coherent;
+  first = sym (ap (λ (n : ℕ). map (number_in copying.originals.items) (own_numbers_from 0 n)) (sym named) ∙ own_from [] copying.originals.items 0 refl);
   counted = refl;
   graph = graph;
 }
 
+-- the number of each original is that of a state that was handed in
+pub originals_within : (exact : Bool) (handed : List (State Bits)) (originals : List ℕ) (states : List (State Bits)) → AreCopies exact handed originals states → (n o : ℕ) → slice_get originals n ≡ Some o → o < length handed
+originals_within exact handed originals states c n o at =
+    let x = filled states n (let l = slice_get_within originals n o at in let k = c.counted in omega arith) in
+    let f = c.each n x.0 x.1 in
+    slice_get_within handed o f.0 (ap (slice_get handed) (sym (number_at originals n o at)) ∙ f.1)
+
+-- the originals of originals, with that of one original more
+pub originals_more : (first originals : List ℕ) (k o p : ℕ) (list next : List ℕ) → k < length originals → o ≡ get_or originals k 0 → o < length first → p ≡ get_or first o 0 → list ≡ map (number_in first) (take k originals) → next ≡ list ++ p ∷ [] → next ≡ map (number_in first) (take (k + 1) originals)
+originals_more first originals k o p list next l is within gives before pushed =
+    let more : take (k + 1) originals ≡ take k originals ++ o ∷ [] = take_more originals k 0 l ∙ ap (λ (x : ℕ). take k originals ++ x ∷ []) (sym is) in
+    let here : number_in first o ≡ p = number_at first o (get_or first o 0) (slice_get-get_or first o 0 within) ∙ sym gives in
+    pushed ∙ ap (λ (xs : List ℕ). xs ++ p ∷ []) before
+    ∙ sym (ap (map (number_in first)) more ∙ map-append (number_in first) (take k originals) (o ∷ []) ∙ ap (λ (x : ℕ). map (number_in first) (take k originals) ++ x ∷ []) here)
+
+-- ---- a step of one state
+-- copies of states stay copies if one of them takes other tokens
+pub copies_step : (handed : List (State Bits)) (originals : List ℕ) (old new : List (State Bits)) (n : ℕ) → AreCopies false handed originals old → IsStateStep n old new → AreCopies false handed originals new
+copies_step handed originals old new n c t = record {
+  coherent = c.coherent;
+  counted = c.counted ∙ sym t.counted;
+  own = c.own;
+  each = λ k state there. elim (cases_eq k n) [
+    | inl here ↦
+        let o = c.each n t.before t.was in
+        let same : t.after ≡ state = same_some t.after state (sym t.is ∙ ap (slice_get new) (sym here) ∙ there) in
+        let copy : IsCopyOf false (number_in originals) n o.0 t.after = record {
+          numbered = ap (λ (i : StateIndex). i.0) (t.same).index ∙ o.2.numbered;
+          items = ap (λ (is : Items Bits). is.vec.items) t.items ∙ o.2.items;
+          shifts = ap (λ (es : BTreeMap TerminalString StateIndex). retargeted_all (number_in originals) es.entries) (t.same).shifts ∙ o.2.shifts;
+          gotos = ap (λ (es : BTreeMap NonterminalString StateIndex). retargeted_all (number_in originals) es.entries) (t.same).gotos ∙ o.2.gotos;
+          reductions = (t.same).reduced ∙ o.2.reductions;
+        } in
+        (o.0, ap (λ m. slice_get handed (number_in originals m)) here ∙ o.1, subst (λ (s : State Bits). IsCopyOf false (number_in originals) k o.0 s) same (subst (λ m. IsCopyOf false (number_in originals) m o.0 t.after) (sym here) copy))
+    | inr other ↦ c.each k state (sym (t.others k other) ∙ there)
+  ];
+}
+
 -- ---- states that are resolved stay LR(0) states and copies
 module _ (g : Rules) (start : NonterminalString) (copies : ℕ) where
-  -- copies of such states are such states
-  pub resolving_copied : (old new : Copying) → IsResolving g start copies old → IsCopied old new → IsResolving g start copies new
-  resolving_copied old new r c = record {
-    handed = r.handed;
-    made = r.made;
-    originals = map (number_in r.originals) c.originals;
-    each = copies_of_copies r.handed r.originals c.originals old.states.items new.states.items r.each c.each;
-    counted = c.counted ∙ r.counted;
-    graph = c.graph;
-  }
+  module _ (handed : List (State Bits)) where
+    -- copies of such states are such states
+    pub resolving_copied : (old new : Copying) → IsResolving g start copies handed old → IsCopied old new → IsResolving g start copies handed new
+    resolving_copied old new r c = record {
+      made = r.made;
+      each = subst (λ (os : List ℕ). AreCopies false handed os new.states.items) (sym c.first) (copies_of_copies handed old.originals.items c.originals old.states.items new.states.items r.each c.each);
+      counted = c.counted ∙ r.counted;
+      graph = c.graph;
+    }
 
-  -- one state took the columns of its lanes
-  pub resolving_taken : (old new : Copying) → IsResolving g start copies old → new.graph ≡ old.graph → new.copies_left ≡ old.copies_left → (n : ℕ) (before after : State Bits) → slice_get old.states.items n ≡ Some before → new.states.items ≡ slice_set old.states.items n after → (actions : List Action) (table : LaneTable) → IsAttempted actions table before after → IsResolving g start copies new
-  resolving_taken old new r graph left n before after at set actions table a =
-      let place = applied_same actions a.columns before after a.applied in
-      let step = set_step n old.states.items new.states.items before after at set place a.applied.items in
-      let is : slice_get new.states.items n ≡ Some after = ap (λ (xs : List (State Bits)). slice_get xs n) set ∙ set_here old.states.items n after (slice_get_within old.states.items n before at) in
-      record {
-        handed = r.handed;
-        made = r.made;
-        originals = r.originals;
-        each = copies_taken r.handed r.originals old.states.items new.states.items actions a.columns n r.each (record { before = before; after = after; was = at; is = is; counted = step.counted; others = step.others; disjoint = a.disjoint; applied = a.applied });
-        counted = let c = r.counted in let k = step.counted in omega arith;
-        graph = subst (IsGraphOf (edges new.states.items)) (sym graph) (graph_on old.states.items new.states.items old.graph (step_places n old.states.items new.states.items step) r.graph);
-      }
+    -- one state took the columns of its lanes
+    pub resolving_taken : (old new : Copying) → IsResolving g start copies handed old → new.graph ≡ old.graph → new.copies_left ≡ old.copies_left → new.originals ≡ old.originals → (n : ℕ) (before after : State Bits) → slice_get old.states.items n ≡ Some before → new.states.items ≡ slice_set old.states.items n after → (actions : List Action) (table : LaneTable) → IsAttempted actions table before after → IsResolving g start copies handed new
+    resolving_taken old new r graph left same_originals n before after at set actions table a =
+        let place = applied_same actions a.columns before after a.applied in
+        let step = set_step n old.states.items new.states.items before after at set place a.applied.items in
+        record {
+          made = r.made;
+          each = subst (λ (os : Vec ℕ Global). AreCopies false handed os.items new.states.items) (sym same_originals) (copies_step handed old.originals.items old.states.items new.states.items n r.each step);
+          counted = let c = r.counted in let k = step.counted in omega arith;
+          graph = subst (IsGraphOf (edges new.states.items)) (sym graph) (graph_on old.states.items new.states.items old.graph (step_places n old.states.items new.states.items step) r.graph);
+        }
 
-  -- all states stayed
-  pub resolving_same : (old new : Copying) → IsResolving g start copies old → new.graph ≡ old.graph → new.copies_left ≡ old.copies_left → new.states.items ≡ old.states.items → IsResolving g start copies new
-  resolving_same old new r graph left same = record {
-    handed = r.handed;
-    made = r.made;
-    originals = r.originals;
-    each = subst (AreCopies false r.handed r.originals) (sym same) r.each;
-    counted = let c = r.counted in let k = ap length same in omega arith;
-    graph = subst (λ (xs : List (State Bits)). IsGraphOf (edges xs) new.graph) (sym same) (subst (IsGraphOf (edges old.states.items)) (sym graph) r.graph);
-  }
+    -- all states stayed
+    pub resolving_same : (old new : Copying) → IsResolving g start copies handed old → new.graph ≡ old.graph → new.copies_left ≡ old.copies_left → new.originals ≡ old.originals → new.states.items ≡ old.states.items → IsResolving g start copies handed new
+    resolving_same old new r graph left same_originals same = record {
+      made = r.made;
+      each = subst (λ (os : Vec ℕ Global). AreCopies false handed os.items new.states.items) (sym same_originals) (subst (AreCopies false handed old.originals.items) (sym same) r.each);
+      counted = let c = r.counted in let k = ap length same in omega arith;
+      graph = subst (λ (xs : List (State Bits)). IsGraphOf (edges xs) new.graph) (sym same) (subst (IsGraphOf (edges old.states.items)) (sym graph) r.graph);
+    }
 
-  pub resolving_copies : (copying : Copying) → IsResolving g start copies copying → AreLr0Copies g start copies copying.states.items
-  resolving_copies copying r = record {
-    handed = r.handed;
-    made = r.made;
-    originals = r.originals;
-    each = r.each;
-    counted = let c = r.counted in omega arith;
-  }
+    pub resolving_copies : (copying : Copying) → IsResolving g start copies handed copying → AreLr0Copies g start copies copying.states.items
+    resolving_copies copying r = record {
+      handed = handed;
+      made = r.made;
+      originals = copying.originals.items;
+      each = r.each;
+      counted = let c = r.counted in omega arith;
+    }
 
-  pub copied_answers : {E : Type 0} (old : Copying) → IsResolving g start copies old → (r : Result (Copying × Bool) E) → IfOk r (λ answer. IsCopied old answer.0) → IfOk r (λ answer. IsResolving g start copies answer.0)
-  copied_answers old before (Ok answer) c = resolving_copied old answer.0 before c
-  copied_answers old before (Err e) c = tt
+  -- a merge of states that all stayed before
+  pub copied_answers : {E : Type 0} (old moved : Copying) → moved.graph ≡ old.graph → moved.copies_left ≡ old.copies_left → moved.originals ≡ old.originals → moved.states.items ≡ old.states.items →
+      (r : Result (Copying × Bool) E) → IfOk r (λ answer. IsCopied moved answer.0) → IfOk r (λ answer. (handed : List (State Bits)) → IsResolving g start copies handed old → IsResolving g start copies handed answer.0)
+  copied_answers old moved graph left originals same (Ok answer) c = λ handed before. resolving_copied handed moved answer.0 (resolving_same handed old moved before graph left originals same) c
+  copied_answers old moved graph left originals same (Err e) c = tt
 
 -- ---- the reductions of the inconsistent state
 -- the actions include these reductions after the walks as before, since copies have the same
@@ -190,14 +241,15 @@ patchable_from actions merge table state states same_table same_state same_state
 }
 
 -- the states and the graph after a merge
-pub merged_copied : (old new : Copying) (before merge : Merge) (count : ℕ) → before.states ≡ old.states → before.copies_left ≡ old.copies_left → AreCopies false before.states.items merge.originals.items merge.states.items →
+pub merged_copied : (old new : Copying) (before merge : Merge) (count : ℕ) → new.originals.items ≡ map (number_in old.originals.items) merge.originals.items → before.states ≡ old.states → before.copies_left ≡ old.copies_left → AreCopies false before.states.items merge.originals.items merge.states.items →
     merge.copies_left + length merge.states.items ≡ before.copies_left + length before.states.items → new.states ≡ merge.states → new.copies_left ≡ merge.copies_left → length old.states.items ≡ count → IsGraphOf (edges old.states.items) old.graph →
     FollowsCopies count merge.originals.items merge.states.items merge.states.items old.graph new.graph → IsCopied old new
-merged_copied old new before merge count same same_left copies counted now left number graph follows =
+merged_copied old new before merge count first same same_left copies counted now left number graph follows =
     let each : AreCopies false old.states.items merge.originals.items merge.states.items = subst (λ (xs : Vec (State Bits) Global). AreCopies false xs.items merge.originals.items merge.states.items) same copies in
     record {
       originals = merge.originals.items;
       each = subst (λ (xs : Vec (State Bits) Global). AreCopies false old.states.items merge.originals.items xs.items) (sym now) each;
+      first = first;
       counted = let a = ap (λ (xs : Vec (State Bits) Global). length xs.items) now in let b = ap (λ (xs : Vec (State Bits) Global). length xs.items) same in omega arith;
       graph = subst (λ (xs : Vec (State Bits) Global). IsGraphOf (edges xs.items) new.graph) (sym now) (follows old.states.items number each graph);
     }

@@ -23,7 +23,7 @@ use Rattle.lalrpop_collections.proofs.theory.lists.Places.{same_some, slice_get-
 use Rattle.lr1_theory.proofs.theory.renumbering.Renumbered.{no_lead}
 use Rattle.lalrpop_state_graph.proofs.theory.graphs.GraphCopies.{number_at}
 
-number_past : (xs : List ℕ) (n : ℕ) → length xs ≤ n → number_in xs n ≡ n
+pub number_past : (xs : List ℕ) (n : ℕ) → length xs ≤ n → number_in xs n ≡ n
 number_past xs n l = ap (λ x. unwrap_or x n) (slice_get_past xs n l)
 
 -- two functions that agree on a list map it alike
@@ -119,7 +119,7 @@ module _ (exact : Bool) (handed : List (State Bits)) (originals : List ℕ) (sta
     led : {K : Type 0} (test : K → Bool) (es fs : List (K × StateIndex)) → retargeted_all original fs ≡ es → option_map number_of (lookup test es) ≡ option_map original (option_map number_of (lookup test fs))
     led test es fs same = ap (λ xs. option_map number_of (lookup test xs)) (sym same) ∙ ap (option_map number_of) (lookup-map_values (retargeted original) test fs) ∙ numbers (lookup test fs)
 
-    leads_copy : (n : ℕ) (old new : State Bits) → IsCopyOf exact original n old new → (x : Symbol) → leads (contents_of (holds_token terminals) old) x ≡ option_map original (leads (contents_of (holds_token terminals) new) x)
+    pub leads_copy : (n : ℕ) (old new : State Bits) → IsCopyOf exact original n old new → (x : Symbol) → leads (contents_of (holds_token terminals) old) x ≡ option_map original (leads (contents_of (holds_token terminals) new) x)
     leads_copy n old new copy (Terminal t) = led (is_at (terminal_order t)) old.shifts.entries new.shifts.entries copy.shifts
     leads_copy n old new copy (Nonterminal a) = led (is_at (name_cmp a)) old.gotos.entries new.gotos.entries copy.gotos
 

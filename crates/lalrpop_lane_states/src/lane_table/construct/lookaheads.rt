@@ -2,7 +2,8 @@
 ghost use Rattle.std.specs.Prelude.{◌≡◌, ◌<◌, length, IfOk, MatchBool};
 ghost use Rattle.lalrpop_base.specs.Words.{contents, productions, rules_of};
 ghost use Rattle.lalrpop_lane_states.specs.lane_states.FoundLookaheads.{IsFoundAt, with_sets};
-ghost use Rattle.lalrpop_lane_states.specs.lane_states.LaneStates.{AreLaneStates, IsResolvedAt, IsStateStep};
+ghost use Rattle.lalrpop_lane_states.specs.lane_states.LaneStates.{IsResolvedAt, IsStateStep};
+ghost use Rattle.lalrpop_lane_states.specs.lane_states.Lr0Copies.{AreLr0Copies};
 ghost use Rattle.lalrpop_follow_sets.specs.lanes.LaneTokens.{LanesMeet};
 
 use super::LaneTableConstruct;
@@ -42,8 +43,8 @@ impl<'grammar> LaneTableConstruct<'grammar> {
         found: &FollowSets,
         numbered: &NumberedState,
     ) -> Result<bool, OutOfMemory>
-        requires lanes { AreLaneStates (rules_of self.now.grammar.now) self.now.start
-            states.old.items }
+        requires copies { AreLr0Copies (rules_of self.now.grammar.now) self.now.start
+            self.now.max_copies states.old.items }
         requires listed { index < length states.old.items }
         requires found { IsFoundAt (rules_of self.now.grammar.now) self.now.start
             states.old.items index found.now numbered.now }

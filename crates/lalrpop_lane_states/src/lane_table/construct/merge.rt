@@ -18,7 +18,7 @@ ghost use Rattle.lalrpop_state_graph.specs.graphs.Copies.{AreCopies};
 ghost use Rattle.lalrpop_lane_states.specs.declared.lane_table.construct.merge.MergeError.TheVariants.{Memory};
 
 use self::context_sets::ContextSets;
-use self::copies::own_numbers;
+pub(crate) use self::copies::own_numbers;
 use lalrpop_base::collections::{Map, Set};
 use lalrpop_base::lr1_core::state::{Action, Lr1State, StateIndex};
 use lalrpop_base::memory::OutOfMemory;
@@ -187,6 +187,13 @@ impl<'table, 'grammar> Merge<'table, 'grammar> {
     {
         graph.follow_copies(alloc, &self.states, &self.originals, count)?;
         Ok(())
+    }
+
+    /// The number of the original of each state.
+    pub(super) fn originals(&self) -> &[usize]
+        ensures { result.now ≡ self.now.originals.items }
+    {
+        &self.originals
     }
 
     /// The states. Copies come after all others.

@@ -1,7 +1,7 @@
 //! States that are merged along the lanes of one state, and copied if their tokens overlap.
-ghost use Rattle.std.specs.Prelude.{◌≡◌, ◌↔◌, ◌+◌, true, false, List, length, slice_get, Some, Contains, IfOk, IsTrue, OnOk};
+ghost use Rattle.std.specs.Prelude.{◌≡◌, ◌↔◌, ◌+◌, ◌<◌, ℕ, true, false, List, length, map, slice_get, Some, Contains, IfOk, IsTrue, OnOk};
 ghost use Rattle.std.specs.Map.{keys_of};
-ghost use Rattle.lalrpop_base.specs.Words.{AreCoherent, Bits};
+ghost use Rattle.lalrpop_base.specs.Words.{AreCoherent, Bits, number_in};
 ghost use Rattle.lalrpop_lanes.specs.Words.{AreAmong, AreDisjoint};
 ghost use Rattle.lalrpop_states.specs.declared.lr1_core.state.State.{State};
 ghost use Rattle.lalrpop_states.specs.declared.lr1_core.state.StateIndex.{StateIndex as Number};
@@ -32,6 +32,7 @@ pub(super) fn merge_along<'grammar>(
     state: StateIndex,
 ) -> Result<(Copying<'grammar>, bool), OutOfMemory>
     requires coherent { AreCoherent copying.states.items }
+    requires named { length copying.originals.items ≡ length copying.states.items }
     requires graph { IsGraphOf (edges copying.states.items) copying.graph }
     requires closed { IsClosed (length copying.states.items) table.now }
     requires row { HasRow table.now state }
@@ -49,6 +50,22 @@ pub(super) fn merge_along<'grammar>(
     }
 }
 
+// The originals of originals. `first` has the original of each original.
+fn first_originals(
+    alloc: Global,
+    first: &[usize],
+    originals: &[usize],
+) -> Result<Vec<usize>, OutOfMemory>
+    requires { (n o : ℕ) → slice_get originals.now n ≡ Some o → o < length first.now }
+    ensures { IfOk result (λ list. list.items ≡ map (number_in first.now) originals.now) }
+{
+    let mut list = Vec::with_capacity(alloc, originals.len())?;
+    for original in originals {
+        list.push(first[*original])?;
+    }
+    Ok(list)
+}
+
 // Merges states, by the rows of the lane table.
 fn merge_states<'grammar>(
     alloc: Global,
@@ -59,6 +76,7 @@ fn merge_states<'grammar>(
     state: StateIndex,
 ) -> Result<(Copying<'grammar>, bool), OutOfMemory>
     requires coherent { AreCoherent copying.states.items }
+    requires named { length copying.originals.items ≡ length copying.states.items }
     requires graph { IsGraphOf (edges copying.states.items) copying.graph }
     requires closed { IsClosed (length copying.states.items) table.now }
     requires rows { (state : Number) →
@@ -82,11 +100,13 @@ fn merge_states<'grammar>(
     let resolved = walk_and_patch(alloc, &mut merge, &beachheads, actions)?;
     merge.update_graph(alloc, &mut graph, count)?;
     let copies_left = merge.copies_left();
+    let originals = first_originals(alloc, &copying.originals, merge.originals())?;
     let states = merge.into_states();
     let copying = Copying {
         states,
         graph,
         copies_left,
+        originals,
     };
     Ok((copying, resolved))
 }

@@ -56,6 +56,8 @@ impl<'grammar> LaneTableConstruct<'grammar> {
         requires numbered { AreNumberedStates numbers.now states.old.items numbered.now }
         ensures lanes { OnOk result
             (AreLaneStates (rules_of self.now.grammar.now) self.now.start states.new.items) }
+        ensures numbered { OnOk result
+            (AreNumberedStates numbers.now states.new.items numbered.now) }
         ensures resolved { IfOk result (λ first. MatchOption first
             (AreLaneTables (rules_of self.now.grammar.now) self.now.start states.new.items)
             (λ _. HaveMeetingLanes (rules_of self.now.grammar.now) self.now.start

@@ -18,7 +18,7 @@ use std::collections::BTreeMap;
 
 /// The numbers below `count`, in order.
 #[tactic(auto, using(crate::proofs::theory::merges::Merges::numbers_more))]
-pub(super) fn own_numbers(alloc: Global, count: usize) -> Result<Vec<usize>, OutOfMemory>
+pub(crate) fn own_numbers(alloc: Global, count: usize) -> Result<Vec<usize>, OutOfMemory>
     ensures counted { IfOk result (λ numbers. length numbers.items ≡ count) }
     ensures own { IfOk result
         (λ numbers. (n : ℕ) → n < count → slice_get numbers.items n ≡ Some n) }

@@ -37,7 +37,7 @@ returns-then-branch-clause-resolved c =
     let unions = rw c.deref.ensures.value at c.in_ok-sets.ensures in
     let tokens = rw c.deref-2.ensures.value at c.in_ok-shifted.ensures in
     let share = rw c.deref-3.ensures.value at (was_resolved c.in_ok-share_token.field-0 _ _ c.if-branch.true c.in_ok-share_token.ensures) in (
-      found_meet (rules_of c.args.self.now.grammar.now) c.args.self.now.start states c.requires.lanes c.args.index c.args.found.now c.args.numbered.now c.requires.found state.0 state.1
+      found_meet (rules_of c.args.self.now.grammar.now) c.args.self.now.start c.args.self.now.max_copies states c.requires.copies c.args.index c.args.found.now c.args.numbered.now c.requires.found state.0 state.1
           c.in_ok-sets.sets.items unions c.in_ok-shifted.shifted tokens share,
       refl,
     )
@@ -48,7 +48,7 @@ put_sets-requires c =
     let state = c.index_mut-state.result.now in
     let at = slice_get_at states c.args.index state c.requires.listed c.index_mut-state.ensures.value in
     let unions = rw c.deref.ensures.value at c.in_ok-sets.ensures in
-    sets_counted (rules_of c.args.self.now.grammar.now) c.args.self.now.start states c.requires.lanes c.args.index c.args.found.now c.args.numbered.now c.requires.found state at
+    sets_counted (rules_of c.args.self.now.grammar.now) c.args.self.now.start c.args.self.now.max_copies states c.requires.copies c.args.index c.args.found.now c.args.numbered.now c.requires.found state at
     c.in_ok-sets.sets.items unions ∙ ap length (sym c.deref-4.ensures.value)
 
 pub returns-clause-step : goal.returns-clause-step
@@ -58,7 +58,7 @@ returns-clause-step c =
     let at = slice_get_at states c.args.index state c.requires.listed c.index_mut-state.ensures.value in
     let unions = rw c.deref.ensures.value at c.in_ok-sets.ensures in
     let took = rw c.deref-4.ensures.value at c.in_ok-reductions.ensures in
-    found_step (rules_of c.args.self.now.grammar.now) c.args.self.now.start states c.requires.lanes c.args.index c.args.found.now c.args.numbered.now c.requires.found state at
+    found_step (rules_of c.args.self.now.grammar.now) c.args.self.now.start c.args.self.now.max_copies states c.requires.copies c.args.index c.args.found.now c.args.numbered.now c.requires.found state at
     c.in_ok-sets.sets.items unions _ refl refl refl refl took
 
 pub returns-clause-resolved : goal.returns-clause-resolved
@@ -70,5 +70,5 @@ returns-clause-resolved c =
     let tokens = rw c.deref-2.ensures.value at c.in_ok-shifted.ensures in
     let none = rw c.deref-3.ensures.value at (was_met c.in_ok-share_token.field-0 _ _ c.if-branch.false c.in_ok-share_token.ensures) in
     let took = rw c.deref-4.ensures.value at c.in_ok-reductions.ensures in
-    found_written (rules_of c.args.self.now.grammar.now) c.args.self.now.start states c.requires.lanes c.args.index c.args.found.now c.args.numbered.now c.requires.found state at
+    found_written (rules_of c.args.self.now.grammar.now) c.args.self.now.start c.args.self.now.max_copies states c.requires.copies c.args.index c.args.found.now c.args.numbered.now c.requires.found state at
     c.in_ok-sets.sets.items unions c.in_ok-shifted.shifted tokens none _ refl took

@@ -3,8 +3,10 @@ use Rattle.lalrpop_base.specs.Words.{Bits, AreClosed, AreCoherent, productions, 
 use Rattle.lalrpop_lane_states.proofs.Types.{State}
 use Rattle.lalrpop_follow_sets.specs.follow_sets.FollowNodes.{AreAllReached, AreItemsOfGrammar}
 use Rattle.lalrpop_construction.specs.Words.{places_in}
+use Rattle.lalrpop_lane_states.proofs.theory.lane_states.CopiedShape.{lane_copies}
 use Rattle.lalrpop_lane_states.proofs.theory.lane_states.LaneFound.{found_at, lane_closed, lane_own, lane_reached}
-use Rattle.lalrpop_lane_states.proofs.theory.lane_states.LaneLoop.{lane_states_on, resolved_more}
+use Rattle.lalrpop_lane_states.proofs.theory.lane_states.FoundPlaces.{numbered_on}
+use Rattle.lalrpop_lane_states.proofs.theory.lane_states.LaneLoop.{lane_states_on, resolved_more, step_places}
 use Rattle.lalrpop_lane_states.proofs.theory.lane_states.LaneShape.{lane_shape}
 use Rattle.lalrpop_collections.proofs.theory.lists.Places.{slice_get_at}
 use Rattle.lalrpop_lane_states.proofs.theory.lane_states.LaneAnswers.{lane_tables, all_done, was_resolved, were_met}
@@ -24,6 +26,9 @@ pub new-requires-clause-own : goal.new-requires-clause-own
 new-requires-clause-own c = subst (λ (xs : List (State Bits)). AreItemsOfGrammar (productions c.args.self.now.grammar.now) (places_in xs)) (sym c.deref.ensures.value) (lane_own (rules_of c.args.self.now.grammar.now) c.args.self.now.start c.args.states.now.items c.requires.lanes)
 
 -- ---- the loop
+pub resolve_state-requires-clause-copies : goal.resolve_state-requires-clause-copies
+resolve_state-requires-clause-copies c = lane_copies (rules_of c.args.self.now.grammar.now) c.args.self.now.start c.args.self.now.max_copies c.loop-index.states.items c.loop-index.invariant.lanes
+
 pub resolve_state-requires-clause-found : goal.resolve_state-requires-clause-found
 resolve_state-requires-clause-found c =
     let h = c.loop-index.invariant in
@@ -44,6 +49,12 @@ returns-then-not-branch-clause-resolved c =
     let old : List (State Bits) = c.loop-index.states.items in
     let new : List (State Bits) = c.resolve_state.new.states.items in
     were_met (rules_of c.args.self.now.grammar.now) c.args.self.now.start c.args.numbers.now c.in_ok-found.found c.args.numbered.now c.len-count.result c.loop-index.index old new c.loop-index.invariant c.in_ok-resolve_state.ensures.step c.in_ok-resolve_state.field-0 _ c.if-not-branch.true c.in_ok-resolve_state.ensures.resolved
+
+pub returns-then-not-branch-clause-numbered : goal.returns-then-not-branch-clause-numbered
+returns-then-not-branch-clause-numbered c =
+    let old : List (State Bits) = c.loop-index.states.items in
+    let new : List (State Bits) = c.resolve_state.new.states.items in
+    numbered_on c.args.numbers.now old new (step_places c.loop-index.index old new c.in_ok-resolve_state.ensures.step) c.args.numbered.now c.loop-index.invariant.numbered
 
 pub loop-index-preserved : goal.loop-index-preserved
 loop-index-preserved c =
