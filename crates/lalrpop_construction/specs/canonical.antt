@@ -1,3 +1,2 @@
 -- The results of the canonical construction.
 pub mod CanonicalAnswers
-pub mod Counting

@@ -1,7 +1,6 @@
 //! The construction of LR(0) and canonical LR(1) states, for any lookahead.
 pub mod canonical;
 pub mod closure;
-mod counting;
 mod epsilon_moves;
 pub mod kernel;
 pub mod lookahead_build;

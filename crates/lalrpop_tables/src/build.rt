@@ -8,15 +8,14 @@ ghost use Rattle.lalrpop_tables.specs.answers.Lr1Answers.{AreBuiltTablesOf, Fail
 ghost use Rattle.lalrpop_tables.specs.answers.TablesOrCount.{AreBuiltTablesOrCount};
 
 use by_lanes::tables_by_lanes;
+use canonical_by_number::canonical::canonical_states_or_count;
 use lalrpop_base::lookahead::nil::Nil;
 use lalrpop_base::lr1_core::state::{Lr1Result, Lr1State};
 use lalrpop_base::memory::OutOfMemory;
 pub use lalrpop_base::numbers::suffixes::Suffix;
 use lalrpop_base::repr::NonterminalString;
 use lalrpop_base::repr::grammar::Grammar;
-use lalrpop_construction::construction::canonical::{
-    build_canonical_states, canonical_states_or_count,
-};
+use lalrpop_construction::construction::canonical::build_canonical_states;
 pub use lalrpop_construction::construction::kernel::Kernel;
 pub use lalrpop_construction::construction::lookahead_build::LookaheadBuild;
 pub use lalrpop_construction::construction::lr::Lr;
@@ -63,11 +62,12 @@ pub fn lr1_states_or_count<'grammar>(
     ensures answer { IfOk result (AreBuiltTablesOrCount options.now.method options.now.max_copies
         grammar.now start) }
 {
+    let counted = start.clone(alloc)?;
     let (by_lanes, lr) = tables_by(alloc, grammar, start, options)?;
     if let Some(tables) = by_lanes {
         return Ok(TablesOrCount::Tables(tables));
     }
-    canonical_states_or_count(alloc, grammar, lr)
+    canonical_states_or_count(alloc, grammar, lr, counted)
 }
 
 // By the lane method the lane tables that pass the check, if there are such, and by the canonical

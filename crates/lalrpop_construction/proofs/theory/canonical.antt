@@ -3,9 +3,6 @@ pub mod Canonical
 pub mod CanonicalAnswers
 pub mod CanonicalConflicts
 pub mod CanonicalContents
-pub mod CanonicalCounts
-pub mod CountedStates
-pub mod Counts
 pub mod Deciding
 pub mod Lr0States
 pub mod OrderedCanonical

@@ -1,12 +1,9 @@
 //! The canonical construction of LR(1) states.
 ghost use Rattle.std.specs.Prelude.{◌≡◌, IfOk, IfErr};
-ghost use Rattle.lalrpop_base.specs.Words.{IsWellFormed};
 ghost use Rattle.lalrpop_construction.specs.construction.Results.{canonical_of, lr0_of};
-ghost use Rattle.lalrpop_construction.specs.canonical.CanonicalAnswers.{AreCanonicalTables, AreCanonicalTablesOrCount, FailsByConflicts};
+ghost use Rattle.lalrpop_construction.specs.canonical.CanonicalAnswers.{AreCanonicalTables, FailsByConflicts};
 
-use super::counting::states_or_count;
 use super::lr::Lr;
-use super::tables_or_count::TablesOrCount;
 use lalrpop_base::lookahead::nil::Nil;
 use lalrpop_base::lookahead::token_set::TokenSet;
 use lalrpop_base::lr1_core::state::Lr1Result;
@@ -49,25 +46,4 @@ pub fn build_canonical_states<'grammar>(
     let mut canonical = canonical_construction(alloc, grammar, lr)?;
     canonical.set_stop_after(stop_after);
     canonical.build_lr1_states(alloc)
-}
-
-/// The canonical states of a grammar, or the number of their conflicts.
-///
-/// The states are numbered in the order in which the construction finds them. A number of conflicts
-/// above the greatest `usize` is returned as that `usize`. `OutOfMemory` if an allocation fails.
-pub fn canonical_states_or_count<'grammar>(
-    alloc: Global,
-    grammar: &'grammar Grammar,
-    lr: Lr<'grammar, Nil>,
-) -> Result<TablesOrCount<'grammar>, OutOfMemory>
-    requires well_formed { IsWellFormed grammar.now }
-    requires over { lr.construction ≡ lr0_of grammar.now lr.construction.start }
-    ensures { IfOk result
-        (AreCanonicalTablesOrCount grammar.now lr.entry.construction.start) }
-{
-    let _names = grammar.nonterminals.len();
-    let _terminals = grammar.terminals.all();
-    let canonical = canonical_construction(alloc, grammar, lr)?;
-    let answer = states_or_count(alloc, &canonical)?;
-    Ok(answer)
 }

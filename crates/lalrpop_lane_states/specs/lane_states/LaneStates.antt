@@ -1,11 +1,7 @@
 -- Lane tables of a grammar (Pager 1977): its LR(0) states, whose reductions hold the tokens that
 -- are found by tracing back over the states.
-use Rattle.std.specs.Prelude.{◌≡◌, ◌≤◌, ◌<◌, ◌↔◌, ◌++◌, ◌∷◌, ℕ, true, List, [], length, map, slice_get, Some, Contains}
-use Rattle.std.specs.declared.cmp.Ordering.{Ordering}
-use Rattle.std.specs.declared.cmp.Ordering.TheVariants.{Equal}
+use Rattle.std.specs.Prelude.{◌≡◌, ◌≤◌, ◌<◌, ◌↔◌, ℕ, true, List, length, map, slice_get, Some, Contains}
 use Rattle.std.specs.Borrow.{Bor}
-use Rattle.std.specs.List.{flat_map}
-use Rattle.std.specs.List.Sorted.{IsStrictlySortedBy}
 use Rattle.lalrpop_base.specs.Words.{Bits, has, AreClosed, AreChecked, AreCoherent, contents, Dotted, AreLr0, IsLaneToken, HoldLaneTokens, Contents}
 use Rattle.lalrpop_base.specs.Words.{ReducesFinished, AreFaithful, IsBitOf, IsLALR1, Rules, IsWellFormed}
 use Rattle.lalrpop_construction.specs.Words.{lr0_of}

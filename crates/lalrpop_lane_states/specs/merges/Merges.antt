@@ -1,6 +1,6 @@
 -- States of a lane table that are joined into sets whose tokens agree, and copies of those whose
 -- tokens do not (Pager 1977, "A practical general method for constructing LR(k) parsers").
-use Rattle.std.specs.Prelude.{◌≡◌, ◌≤◌, ◌<◌, ◌+◌, ◌⊎◌, ◌==◌, ◌++◌, ◌∷◌, ℕ, cond, Bool, true, false, List, [], length, map, slice_get, Option, None, Some, Contains}
+use Rattle.std.specs.Prelude.{◌≡◌, ◌≤◌, ◌<◌, ◌+◌, ◌⊎◌, ◌==◌, ◌++◌, ◌∷◌, ℕ, cond, Bool, true, false, List, [], length, slice_get, Option, None, Some, Contains}
 use Rattle.std.specs.Borrow.{Bor}
 use Rattle.lalrpop_base.specs.Words.{Bits, has, retargeted_all}
 use Rattle.lalrpop_lanes.specs.Words.{AreAmong, AreDisjoint, HasAt, IsApplied, MeetInUnion}

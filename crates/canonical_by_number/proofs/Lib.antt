@@ -1,0 +1,12 @@
+pub mod Beginning
+pub mod CanonicalTotals
+pub mod Closing
+pub mod Closures
+pub mod CountedConflicts
+pub mod Edges
+pub mod Gathering
+pub mod OneMoreState
+pub mod PackedMoves
+pub mod Packing
+pub mod Propagating
+pub mod TokenSets

@@ -1,0 +1,70 @@
+//! The number of conflicts of the canonical states, with sets of tokens by number.
+ghost use Rattle.std.specs.Prelude.{◌≡◌, ◌≤◌, List, IfOk, length};
+ghost use Rattle.lalrpop_grammar.specs.declared.repr.TerminalString.{TerminalString as Name};
+ghost use Rattle.canonical_by_number.specs.Conflicts.{CountsMore, IsConflictTotal, conflicts_of};
+ghost use Rattle.canonical_by_number.specs.Edges.{AreOverSymbols, bits_of};
+ghost use Rattle.canonical_by_number.specs.TokenSets.{AreSetsIn};
+
+use crate::conflicts::{add_conflicts, bits_of};
+use crate::states::{StateMemory, first_kernels, firsts_of, next_state};
+use crate::token_sets::TokenSets;
+use lalrpop_base::lookahead::token_set::TokenSet;
+use lalrpop_base::memory::OutOfMemory;
+use lalrpop_base::numbers::Numbers;
+use lalrpop_construction::construction::lr::Lr;
+use std::alloc::Global;
+
+// A number of conflicts and those of the state that is left in `work`.
+fn with_state(
+    numbers: &Numbers<'_>,
+    bits: &[Option<usize>],
+    sets: &TokenSets,
+    work: &StateMemory,
+    old: usize,
+) -> usize
+    requires finished { AreSetsIn sets.now work.now.finished.items }
+    requires edges { AreOverSymbols numbers.now.symbols.items work.now.edges.items }
+    requires bits { length numbers.now.symbols.items ≤ length bits.now }
+    ensures { (terminals : List Name) →
+        bits.now ≡ bits_of terminals numbers.now.symbols.items →
+        CountsMore (conflicts_of numbers.now sets.now terminals work.now.finished.items
+        work.now.edges.items) old result }
+{
+    add_conflicts(numbers, bits, sets, &work.finished, &work.edges, old)
+}
+
+/// The number of the conflicts of all states of a construction. A number above the greatest `usize`
+/// is returned as that `usize`. `OutOfMemory` if an allocation fails, or if there are more than 2
+/// to the power of 32 sets of tokens or dotted productions.
+pub fn count_conflicts<'grammar>(
+    alloc: Global,
+    lr: &Lr<'grammar, TokenSet>,
+) -> Result<usize, OutOfMemory>
+    ensures { IfOk result (IsConflictTotal lr.now.construction) }
+{
+    let grammar = lr.grammar();
+    let numbers = lr.numbers();
+    if numbers.items.len() > 4294967296 {
+        return Err(OutOfMemory);
+    }
+    let bits = bits_of(alloc, numbers, &grammar.terminals)?;
+    let symbol_bits = bits.as_slice();
+    let mut sets = TokenSets::new(alloc);
+    let firsts = firsts_of(alloc, numbers, &mut sets)?;
+    let first_numbers = firsts.as_slice();
+    let mut kernels = first_kernels(alloc, lr, numbers, &mut sets)?;
+    let mut work = StateMemory::new(alloc);
+    let mut count = 0;
+    'states: while next_state(
+        alloc,
+        lr,
+        numbers,
+        first_numbers,
+        &mut sets,
+        &mut kernels,
+        &mut work,
+    )? {
+        count = with_state(numbers, symbol_bits, &sets, &work, count);
+    }
+    Ok(count)
+}
