@@ -1,12 +1,14 @@
 //! Grammars that are made by rules, so that the tables of large ones can be timed. The start symbol
 //! of each is `S`, which is on no right side.
 mod ambiguous;
+mod choices;
 mod keywords;
 mod levels;
 
 ghost use Rattle.std.specs.Prelude.{◌≤◌};
 
 use ambiguous::{print_diamonds, print_ring, print_twins};
+use choices::{print_choices, print_stitched};
 use keywords::print_keywords;
 use levels::{print_brackets, print_levels, print_operators, print_statements};
 use std::io;
@@ -31,6 +33,8 @@ pub fn print_grammar(rt: &HostRuntime, kind: &str, size: usize) -> io::Result<bo
         "diamonds" => print_diamonds(rt, size)?,
         "ring" => print_ring(rt, size)?,
         "twins" => print_twins(rt, size)?,
+        "choices" => print_choices(rt, size)?,
+        "stitched" => print_stitched(rt, size)?,
         _ => return Ok(false),
     }
     Ok(true)
