@@ -12,7 +12,6 @@ ghost use Rattle.lalrpop_state_graph.specs.graphs.StateGraph.{Edge, edges, edges
 
 use self::lists::{list_of, push_at};
 use self::neighbours::{Predecessors, Successors};
-use itertools::Itertools;
 use lalrpop_base::lr1_core::state::{State, StateIndex};
 use lalrpop_base::memory::OutOfMemory;
 use lalrpop_base::repr::Symbol;
@@ -150,7 +149,7 @@ impl StateGraph {
         for state in states {
             self.push_sources(*state, symbol, &mut sources)?;
         }
-        Ok(in_order(alloc, sources)?)
+        Ok(in_order(sources))
     }
 
     // Adds the states from which the symbol leads to the state after the other sources.
@@ -171,15 +170,11 @@ impl StateGraph {
 }
 
 // The same states, ascending, each once.
-fn in_order(alloc: Global, states: Vec<StateIndex>) -> Result<Vec<StateIndex>, OutOfMemory>
-    ensures same { IfOk result (λ list. HaveSameStates states.items list.items) }
-    ensures ascending { IfOk result (λ list. IsStrictlySortedBy state_cmp list.items) }
+fn in_order(mut states: Vec<StateIndex>) -> Vec<StateIndex>
+    ensures same { HaveSameStates states.items result.items }
+    ensures ascending { IsStrictlySortedBy state_cmp result.items }
 {
-    let sorted = states.into_iter().sorted(alloc)?;
-    let mut ordered = Vec::new(alloc);
-    for state in sorted {
-        ordered.push(state)?;
-    }
-    ordered.dedup();
-    Ok(ordered)
+    states.sort_unstable();
+    states.dedup();
+    states
 }

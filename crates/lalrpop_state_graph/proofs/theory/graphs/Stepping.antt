@@ -1,5 +1,5 @@
 -- Gathering states into a set, and steps back over a symbol.
-use Rattle.std.proofs.Common.{◌≡◌, ℕ, suc, ◌+◌, arith, ◌⊎◌, inl, inr, List, [], ◌∷◌, ◌++◌, reverse, refl, sym, ◌∙◌, ap, subst, append_assoc, append-nil, map, Bool, true, length, eq-eqb}
+use Rattle.std.proofs.Common.{◌≡◌, ◌⊎◌, inl, inr, List, [], ◌∷◌, ◌++◌, reverse, refl, sym, ◌∙◌, ap, subst, append_assoc, append-nil, map, Bool, true, length, eq-eqb}
 use Rattle.std.specs.Prelude.{Contains, ◌↔◌, ◌==◌, filter}
 use Rattle.std.specs.List.Sorted.{IsStrictlySortedBy, IsPermutation, IsSorted}
 use Rattle.std.specs.List.Retain.{IsFiltered, DiffersFromLast}
@@ -103,27 +103,6 @@ ordered_same states sorted list moved kept r =
 -- sorted states without repeats ascend
 pub ordered_ascending : (sorted list : List StateIndex) → IsSorted state_cmp sorted → IsFiltered (DiffersFromLast state_eq) [] sorted list → IsStrictlySortedBy state_cmp list
 ordered_ascending sorted list ascend kept = rw (dedup_is state_eq sorted list kept) (IsStrictlySortedBy-dedup state_total (λ x y. sym (unsigned_tied x.0 y.0)) sorted ascend)
-
--- states are moved from an iterator to a list: the moved ones and those that are left are all
-pub record IsMoving (count : ℕ) (left all now : List StateIndex) : Type 0 where
-  pub whole : now ++ left ≡ all
-  pub counted : count ≡ length left
-
-pub moving_start : (count : ℕ) (left all now : List StateIndex) → left ≡ all → count ≡ length all → now ≡ [] → IsMoving count left all now
-moving_start count left all now same counted none = record {
-  whole = ap (λ (xs : List StateIndex). xs ++ left) none ∙ same;
-  counted = counted ∙ ap length (sym same);
-}
-
-pub moving_more : (m n : ℕ) (before left all now next : List StateIndex) (x : StateIndex) → before ≡ x ∷ left → n + 1 ≡ m → next ≡ now ++ x ∷ [] → IsMoving m before all now → IsMoving n left all next
-moving_more m n before left all now next x first less is moving = record {
-  whole = ap (λ (xs : List StateIndex). xs ++ left) is ∙ append_assoc now (x ∷ []) left ∙ ap (λ (xs : List StateIndex). now ++ xs) (sym first) ∙ moving.whole;
-  counted = let counted : m ≡ length before = moving.counted in let longer : length before ≡ suc (length left) = ap length first in omega arith;
-}
-
-pub moving_end : (m : ℕ) (left all now : List StateIndex) → m ≡ 0 → IsMoving m left all now → now ≡ all
-moving_end m left all now none moving =
-    sym (append-nil now) ∙ ap (λ (xs : List StateIndex). now ++ xs) (sym (nil_from_length left (sym moving.counted ∙ none))) ∙ moving.whole
 
 -- ---- the sources in a graph of edges
 filtered : {X Y : Type 0} (f : X → Y) (p : X → Bool) (xs : List X) (x : X) → Contains xs x → p x ≡ true → Contains (map f (filter p xs)) (f x)
