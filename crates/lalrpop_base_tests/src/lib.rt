@@ -1,14 +1,10 @@
-//! Tests of grammars, sets and values that no case file can express: values that no text gives, and
-//! what is left after an allocation failure.
+//! Tests of grammars, sets and values that no case file can express: calls that no library makes,
+//! printed values, copies that share memory, and the fixtures that refuse allocations.
 #![tactic(auto)]
 
 #[cfg(test)]
-mod allocation_failures;
+mod calls;
 #[cfg(test)]
-mod asked;
-#[cfg(test)]
-mod collections;
-#[cfg(test)]
-mod tokens;
+mod fixtures;
 #[cfg(test)]
 mod values;
