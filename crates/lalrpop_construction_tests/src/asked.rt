@@ -1,28 +1,22 @@
-// What tests ask of one grammar.
+// What the test asks of one grammar.
 //
 // The function `counts_of` alone owns a grammar. Each function that owns one has to prove that it
 // drops each part of it.
 ghost use Rattle.lalrpop_base.specs.Words.{IsWellFormed};
 
-use crate::allocation_failures::constructions::{
-    items_at_start, moves_without_lookahead, states_refused,
-};
-use crate::{without_lookahead, word_states};
+use crate::{moves, word_states};
 use lalrpop_base::repr::grammar::Grammar;
 use std::alloc::Global;
 use std::test::Fail;
-use test_fixtures::texts::grammar;
+use test_fixtures::texts::{CROSSED, EMPTY_FIRST, SUMS, grammar};
 
-/// What is asked: the states of a construction that stops after so many conflicts, or of one with
-/// words as lookaheads and a start symbol. The others are calls whose allocations are refused, of
-/// which the last one makes so many states.
+// What is asked: the states of a construction with words as lookaheads and a start symbol, or the
+// items that begin A, with tokens and without lookahead.
 #[derive(Clone, Copy)]
-pub(crate) enum Ask {
-    StopAfter(usize),
+enum Ask {
     Words(&'static str),
-    ItemsAtStart(bool),
     Moves,
-    Refused(usize),
+    MovesWithoutLookahead,
 }
 
 // The numbers of states and of conflicts, for the grammar of a text.
@@ -31,26 +25,23 @@ fn counts_of(alloc: Global, ask: Ask, text: &str) -> Result<(usize, usize), Fail
     counts(alloc, ask, &grammar)
 }
 
-// The numbers of states and of conflicts, for a grammar. They are 0 for a call whose allocations are
-// refused.
+// The numbers of states and of conflicts, for a grammar; or the number of items and 0.
 fn counts(alloc: Global, ask: Ask, grammar: &Grammar) -> Result<(usize, usize), Fail>
     requires { IsWellFormed grammar.now }
 {
     match ask {
-        Ask::StopAfter(conflicts) => without_lookahead::counts(alloc, grammar, conflicts),
         Ask::Words(start) => word_states::counts(alloc, grammar, start),
-        Ask::ItemsAtStart(is_moved) => items_at_start(alloc, grammar, is_moved),
-        Ask::Moves => moves_without_lookahead(alloc, grammar),
-        Ask::Refused(count) => states_refused(alloc, grammar, count),
+        Ask::Moves => Ok((moves::moves(alloc, grammar)?, 0)),
+        Ask::MovesWithoutLookahead => Ok((moves::moves_without_lookahead(alloc, grammar)?, 0)),
     }
 }
 
-/// What is asked, a grammar, and the expected numbers.
-pub(crate) type Case = (Ask, &'static str, (usize, usize));
+// What is asked, a grammar, and the expected numbers.
+type Case = (Ask, &'static str, (usize, usize));
 
-/// Fails unless the numbers of each case are the expected ones. A test makes this call and nothing
-/// else: the proof of a test that compares takes as long as that of a large function.
-pub(crate) fn expect(alloc: Global, cases: &[Case]) -> Result<(), Fail> {
+// Fails unless the numbers of each case are the expected ones. The test makes this call and nothing
+// else: the proof of a test that compares takes as long as that of a large function.
+fn expect(alloc: Global, cases: &[Case]) -> Result<(), Fail> {
     for (ask, text, expected) in cases {
         let (states, conflicts) = counts_of(alloc, *ask, text)?;
         if (states, conflicts) != *expected {
@@ -58,4 +49,25 @@ pub(crate) fn expect(alloc: Global, cases: &[Case]) -> Result<(), Fail> {
         }
     }
     Ok(())
+}
+
+// A grammar with two productions of A.
+const TWO: &str = "S = A \"y\"\nA = \"x\"\nA =";
+
+const CASES: [Case; 6] = [
+    (Ask::Words("S"), SUMS, (16, 0)),
+    (
+        Ask::Words("Ty"),
+        "Ty = \"int\"\nTy = \"bool\"\nTy = Ty \"->\" Ty",
+        (6, 1),
+    ),
+    (Ask::Words("S"), CROSSED, (13, 0)),
+    (Ask::Words("S"), EMPTY_FIRST, (11, 3)),
+    (Ask::Moves, TWO, (2, 0)),
+    (Ask::MovesWithoutLookahead, TWO, (2, 0)),
+];
+
+#[test]
+fn constructions(rt: HostRuntime) -> Result<(), Fail> {
+    expect(rt.alloc(), &CASES)
 }

@@ -1,7 +1,6 @@
 // States with words as lookaheads, made by the construction that is generic in the lookahead.
 ghost use Rattle.lalrpop_base.specs.Words.{IsWellFormed};
 
-use crate::asked::{Ask, Case, expect};
 use crate::word_lookahead::Word;
 use grammar_text::symbols::name_of;
 use lalrpop_base::lr1_core::coherent::are_coherent;
@@ -10,7 +9,6 @@ use lalrpop_base::repr::grammar::Grammar;
 use lalrpop_construction::construction::lr::Lr;
 use std::alloc::Global;
 use std::test::Fail;
-use test_fixtures::texts::{CROSSED, EMPTY_FIRST, SUMS};
 
 /// The numbers of states and of conflicts. States that are not coherent are an error.
 pub(crate) fn counts(alloc: Global, grammar: &Grammar, start: &str) -> Result<(usize, usize), Fail>
@@ -27,20 +25,4 @@ pub(crate) fn counts(alloc: Global, grammar: &Grammar, start: &str) -> Result<(u
         }
         _ => Err(Fail::from("no coherent states")),
     }
-}
-
-const STATES: [Case; 4] = [
-    (Ask::Words("S"), SUMS, (16, 0)),
-    (
-        Ask::Words("Ty"),
-        "Ty = \"int\"\nTy = \"bool\"\nTy = Ty \"->\" Ty",
-        (6, 1),
-    ),
-    (Ask::Words("S"), CROSSED, (13, 0)),
-    (Ask::Words("S"), EMPTY_FIRST, (11, 3)),
-];
-
-#[test]
-fn states_with_words(rt: HostRuntime) -> Result<(), Fail> {
-    expect(rt.alloc(), &STATES)
 }

@@ -1,2 +1,0 @@
-// What calls leave after a refused allocation.
-pub(crate) mod constructions;
