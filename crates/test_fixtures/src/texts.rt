@@ -40,17 +40,6 @@ pub fn literal(alloc: Global, text: &str) -> Result<TerminalString, OutOfMemory>
     Ok(TerminalString::Literal(Text::new(alloc, text)?))
 }
 
-/// The literals `0` to `63`. Their bits fill the first 64-bit word of a set, so the bit of `Eof` is
-/// in the second one.
-pub fn many_terminals(alloc: Global) -> Result<TerminalSet, Fail> {
-    let mut all = Vec::new(alloc);
-    for number in 0..64 {
-        let text = format!(in alloc; "{number}")?;
-        all.push(literal(alloc, text.as_str())?)?;
-    }
-    Ok(TerminalSet::new(alloc, all)?)
-}
-
 /// The set of one literal. It is empty if the literal is not in the set of terminals.
 pub fn only(alloc: Global, text: &str, terminals: &TerminalSet) -> Result<TokenSet, OutOfMemory> {
     let terminal = literal(alloc, text)?;
