@@ -1,8 +1,5 @@
-//! Tests of reports that no case file can express: writers that stop, results that no construction
-//! gives, and what is left after a refused allocation.
+//! Tests of reports that no case file can express: writers that stop.
 #![tactic(auto)]
 
-#[cfg(test)]
-mod allocation_failures;
 #[cfg(test)]
 mod writers;
