@@ -72,8 +72,8 @@ fn are_all_printed(alloc: Global) -> Result<bool, Fail> {
     are_printed(alloc, &grammar)
 }
 
-// Fails unless values are printed as they should be, and a copy of a token shares its text and takes
-// no memory.
+// Fails unless values are printed as they should be, and a copy of a token takes no memory. It
+// shares the text.
 fn expect_values(alloc: Global) -> Result<(), Fail> {
     if !are_all_printed(alloc)? {
         return Err(Fail::from("another text"));

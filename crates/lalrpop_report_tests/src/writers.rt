@@ -75,7 +75,7 @@ impl Write for Taking {
     }
 }
 
-// The result of a report to a writer that takes `left` bytes, and these bytes.
+// The kind of the result of a report to a writer that takes `left` bytes, and these bytes.
 fn sent(
     alloc: Global,
     terminals: &TerminalSet,
@@ -89,17 +89,17 @@ fn sent(
         fault,
     });
     let answer = generate_report(alloc, &mut out, terminals, outcome);
-    let told = match &answer {
+    let kind = match &answer {
         Ok(()) => "whole",
         Err(ReportError::Write(_)) => "write",
         Err(ReportError::WriteZero) => "zero",
         Err(ReportError::Memory) => "memory",
         Err(ReportError::NoTables) => "no tables",
     };
-    (told, out.into_inner().taken)
+    (kind, out.into_inner().taken)
 }
 
-// How many bytes a writer takes, its fault, and the result of a report to it.
+// How many bytes a writer takes, its fault, and the kind of the result of a report to it.
 const WRITERS: [(usize, Option<ErrorKind>, &str); 5] = [
     (0, None, "zero"),
     (0, Some(ErrorKind::BrokenPipe), "write"),
@@ -113,9 +113,9 @@ const WRITERS: [(usize, Option<ErrorKind>, &str); 5] = [
 fn are_sent(alloc: Global, terminals: &TerminalSet, outcome: &Lr1Result<'_>) -> bool {
     let whole = ONE_TERMINAL.as_bytes();
     for (left, fault, expected) in WRITERS {
-        let (told, taken) = sent(alloc, terminals, outcome, left, fault);
+        let (kind, taken) = sent(alloc, terminals, outcome, left, fault);
         let end = left.min(whole.len());
-        if told != expected || taken.as_slice() != &whole[..end] {
+        if kind != expected || taken.as_slice() != &whole[..end] {
             return false;
         }
     }
