@@ -12,6 +12,7 @@ COMMANDS = {
     "crates": ("gate.crates_graph", "compares the graph of crates in ARCHITECTURE.md with crates.txt"),
     "guide": ("gate.guide", "runs the commands that pages show, and compares what they print"),
     "replay": ("gate.replay.lrtab", "replays the stored cases of lrtab"),
+    "replay-lrshow": ("gate.replay.lrshow", "replays the stored cases of lrshow"),
     "replay-by-table": ("gate.replay.by_table", "replays parse cases by parse tables, and tries expected tokens"),
     "replay-by-data": ("gate.replay.by_data", "replays parse cases by the data of lrshow"),
     "report-of-data": ("gate.replay.report_of_data", "lays reports out from the data of lrshow"),

@@ -25,6 +25,7 @@ AFTER = (
     ("borrows", "borrows"),
     ("commands of the pages", "guide"),
     ("replays of lrtab", "replay"),
+    ("replays of lrshow", "replay-lrshow"),
     ("replays by parse tables", "replay-by-table"),
     ("replays by the data of lrshow", "replay-by-data"),
     ("listings of the data of lrshow", "report-of-data"),

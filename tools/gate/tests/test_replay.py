@@ -7,7 +7,7 @@ import sys
 from unittest import mock
 
 from gate.files import ROOT
-from gate.replay import by_data, lrtab, report_of_data
+from gate.replay import by_data, lrshow, lrtab, report_of_data
 from gate.tests.programs import CommandTest, run_over
 
 # It prints the grammar and the method. For `S loud` it prints an error too. It needs a small stack.
@@ -115,6 +115,17 @@ class Replay(CommandTest):
             ("a name twice", 1, "two cases are named g/S report/Lane", "report/Canonical", "report/Lane"),
             ("how many differ", 1, "replayed: 2 agree, 1 differ", "by d", "by D"),
         ))
+
+    def test_cases_of_lrshow(self):
+        """The command has its own folder, which is whole. It passes a given program and folder on."""
+        cases, grammars = lrtab.read_cases(lrshow.CASES)
+        self.assertEqual(lrtab.faults_of(lrshow.CASES, cases), [])
+        self.assertEqual({it["file"] for it in cases}, set(grammars))
+        files = {"program": LRTAB, "count": "3\n"}
+        with mock.patch.dict(os.environ, LALRPOP_LANE_TABLE="x"):
+            status, printed = replay(lrshow, files, {"g": TEXT}, CASES, "cases_g.jsonl", "", "")
+        self.assertIn("replayed: 3 agree, 0 differ", printed)
+        self.assertEqual(status, 0)
 
     def test_parses(self):
         """Right data, data that parse otherwise, texts that are no data, and other results."""
