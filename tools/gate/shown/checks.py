@@ -66,6 +66,7 @@ def without_cycle(row, numbered, steps):
     names = re.findall(r"\w+", cycle[2])
     is_way = len(names) > 1 and names[0] == names[-1] and f"`{names[0]}`" == cycle[1].split()[0]
     expect(is_way and steps.issuperset(zip(names, names[1:])), f"no way of a name back to itself: {row.message}")
+    expect(not numbered.has_way_back(names[0], len(names) - 2), f"no shortest way back: {row.message}")
     return row._replace(message=cycle[1])
 
 

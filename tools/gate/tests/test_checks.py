@@ -189,6 +189,7 @@ class Checks(unittest.TestCase):
             ("no way of a name", "`A` `B` `A`;", "`A` `E` `A`;"), ("no way of a name", "`A` `B` `A`;", "`A`;"),
             ("no way of a name", "`A` `B` `A`;", "`B` `A` `B`;"), ("no way of a name", "`A` `B` `A`;", "`A` `B`;"),
             ("no way back", ": `A` `B` `A`;", ";"), ("no way back", ": `A` `B` `A`;", ": `A`, `B`, `A`;"),
+            ("no shortest way", ": `A` `B` `A`;", ": `A` `B` `A` `B` `A`;"),
         ))
 
     def test_faulty_words(self):
