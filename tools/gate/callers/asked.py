@@ -16,7 +16,10 @@ Answer = collections.namedtuple("Answer", "status text")
 # The beginning of the answer to words of another form.
 USAGE = "usage: START "
 # Words of `lrshow`, for grammars whose start symbol is S.
-SHOWN = ("json", "check", "check\0--json", "conflicts", "dot", "dot\0--conflicts", "html", "tree", "tree\0--dot\0a", "rust")
+SHOWN = (
+    "json", "check", "check\0--json", "conflicts", "dot", "dot\0--conflicts", "dot\0--around\0" "1", "dot\0--around\0" "9",
+    "dot\0--around\0" "1\0--depth\0" "2", "html", "tree", "tree\0x", "tree\0--dot\0a", "c\0--prefix\0calc", "rust", "python",
+)
 
 
 def file_of(questions):
@@ -154,7 +157,11 @@ def changed(chance, content):
 def refused_questions():
     """The questions whose allocations are refused: each kind of answer, tables as numbers, a check of
     these, and the calls that parse by them. Each is asked by both methods."""
-    texts = ('S = E\nE = E "+" E\nE = "n"\n', 'S = L\nL = L I\nL =\ninline I\nI = "a"\nI = "b"\n', "S = x\"\n")
+    texts = (
+        'S = E\nE = E "+" E\nE = "n"\n', 'S = L\nL = L I\nL =\ninline I\nI = "a"\nI = "b"\n', "S = x\"\n",
+        # a ring of marked names; and warnings of several kinds, one with a name that may be meant
+        "S = A\nA = A\ninline A\n", 'S = Sun\nS = "s"\nSum = "n"\nC = C\nC = "c"\ninline D\n',
+    )
     words = [*(f"S\0{it}" for it in (*SHOWN, "parse\0" "99\0a\0b", "report", "explain", "none"))]
     words += ["=tables", "=check", "=parse", "=expected"]
     return [Question(text.encode(), it.encode(), by) for text in texts for it in words for by in (False, True)]

@@ -21,16 +21,27 @@ WHOLE = (
 NUMBERS = (
     (('S = A\nA = "x"', "S"), "0 1280454996 1 0 1 2 2 1 3 16 18 25 30 0 1 1 1 1 1 1 0 2 1 0 1 0 0 0 1 1 0 0 0 1 0 0"),
     (('S = A\nA = "x"', "S", "items"), f"0 {WHOLE}"),
-    (("S =\nS =", "S"), "1"), (("what", "S"), "2"), (('S = "x"', "T"), "2"), (("", ""), "2"),
+    # A nonterminal that is inlined, which keeps its number; and a right side twice, of a name that is not reached.
+    (('S = A "x"\nA =\ninline A', "S"), "0 1280454996 1 0 1 2 2 1 2 15 17 22 0 0 1 1 1 1 1 0 1 0 0 0 0 1 1 0"),
+    (('S = "x"\nT = "y"\nT = "y"', "S"), "0 1280454996 1 0 2 2 3 1 2 17 19 24 0 1 1 1 1 1 1 2 1 0 1 0 0 0 0 1 0 0"),
+    (("S =\nS =", "S"), "1"), (('S = E\nE = E "+" E\nE = "n"', "S"), "1"),
+    (("what", "S"), "2"), (('S = "x"\nwhat', "S"), "2"), (("S = A\nA = B\nB = A\ninline A\ninline B", "S"), "2"),
+    (('S = "x"', "T"), "2"), (('S = "x"', "x"), "2"), (('S = "x"', ""), "2"), (("", ""), "2"),
+    # (a byte that is no UTF-8)
+    (('S = "\udcff"', "S"), "2"), (('S = "x"', "S\udcff"), "2"),
 )
 # A place of the numbers with items, another number there, and the status and the message of the check.
-# A place of None is a number of numbers. These are the examples of docs/FORMATS.md.
+# A place of None is a number of numbers. The first five are the examples of docs/FORMATS.md.
 CHECKS = (
     (0, 1280454996, "0 "),
     (44, 1, "2 the tables: state 0 has a number that names nothing, or a name twice\n"),
     (8, 20, "2 the tables: place 8: the number is not the one of the tables\n"),
     (None, 52, "2 the tables: place 52: the numbers end before the tables\n"),
     (40, 1, "1 the tables are not faithful\n"),
+    (23, 1, "1 the tables are not faithful\n"),
+    (1, 2, "2 the tables: place 1: version 2 is unknown\n"),
+    (3, 2, "2 the tables: place 3: the grammar does not have 2 terminals\n"),
+    (None, 0, "2 the tables: place 0: the numbers end before the tables\n"),
 )
 
 # Texts by whose tables random calls are made, and how many for each.
@@ -178,7 +189,15 @@ def checks(library, room):
     for place, number, expected in CHECKS:
         numbers = whole[:number] if place is None else [*whole[:place], str(number), *whole[place + 1 :]]
         rows.append(((text, "S", *numbers), expected))
-    rows.append(((text, "T", *whole), "2 the start symbol is no nonterminal\n"))
+    # Another start symbol, another grammar with the same lists of productions, and faults of text and start symbol.
+    rows += [
+        ((text, "A", *whole), "1 the tables are not faithful\n"),
+        (('S = "x"\nA = "x"', "S", *whole), "1 the tables are not faithful\n"),
+        ((text, "T", *whole), "2 the start symbol is no nonterminal\n"),
+        ((text, "S\udcff", *whole), "2 the start symbol is not UTF-8\n"),
+        (("S = A\nA = A\ninline A", "S", *whole), "2 cyclic inline of A\n"),
+        (('S = "\udcff"', "S", *whole), "2 cannot read grammar\n"),
+    ]
     return f"{len(rows)} calls", unexpected(program, rows, variables)
 
 

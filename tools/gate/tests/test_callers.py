@@ -187,7 +187,7 @@ class Refused(unittest.TestCase):
 
     def test_right_library(self):
         said, faults = self.refused(0)
-        self.assertRegex(said, r"^102 questions, (\d+) refused allocations, \1 of them reported$")
+        self.assertRegex(said, r"^240 questions, (\d+) refused allocations, \1 of them reported$")
         self.assertEqual(faults, [])
 
     def test_faults(self):
@@ -199,7 +199,7 @@ class Refused(unittest.TestCase):
                 self.assertIn(text, faults[1])
 
     def test_faults_of_other_calls(self):
-        for fault, words, number in ((15, "b'=tables',", 26), (16, "b'=check',", 28)):
+        for fault, words, number in ((15, "b'=tables',", 40), (16, "b'=check',", 42)):
             with self.subTest(fault):
                 _, faults = self.refused(fault)
                 self.assertIn(f"words {words}", faults[0])
@@ -218,8 +218,8 @@ class Numbers(unittest.TestCase):
     def test_numbers(self):
         with tempfile.TemporaryDirectory() as room:
             said, faults = in_c.numbers(library(room, 0), room)
-        self.assertEqual((said, len(faults)), ("6 texts", 6))
-        self.assertIn("'T') has '1 7 7 7 7 7 7 7 7', expected '2'", faults[4])
+        self.assertEqual((said, len(faults)), ("15 texts", 15))
+        self.assertIn("'T') has '1 7 7 7 7 7 7 7 7', expected '2'", faults[9])
 
     def test_faults(self):
         for fault, text in ((13, "other numbers, with room for 1 "), (14, "a number after the answer was written")):
@@ -303,7 +303,7 @@ class Checks(unittest.TestCase):
     def test_checks(self):
         with tempfile.TemporaryDirectory() as room:
             said, faults = in_c.checks(library(room, 0), room)
-        self.assertEqual((said, len(faults)), ("7 calls", 7))
+        self.assertEqual((said, len(faults)), ("16 calls", 16))
         self.assertIn("has '1 6131221391", faults[1])
 
     def test_faults(self):
