@@ -1,5 +1,4 @@
-//! Tests of `lrtab`: each kind of result once, and what no stored case can express. These are
-//! readers and writers that fail, and allocations that are refused.
+//! Tests of `lrtab` that no stored case can express: a reader and writers that fail.
 #![tactic(auto)]
 
 #[cfg(test)]

@@ -133,6 +133,11 @@ SHIFT = [REDUCTIONS[0], *chain("A", CHAIN, '"x"', '"x" "z"')]
 # After each name of this one stands one that may be empty.
 SUFFIXES = [REDUCTIONS[0], *[f"A{it} = A{it + 1} N" for it in range(CHAIN - 1)], *REDUCTIONS[-2:], "N ="]
 REDUCED = f'  reduce A{CHAIN - 1} -> "x"'
+# Each two of so many equal productions are in conflict. These conflicts have no examples.
+EQUAL = 142
+EXPLAINED = "\n".join(
+    f'conflict {it} in state 1 on Eof\n  reduce S -> "x"\n  reduce S -> "x"' for it in range(1, EQUAL * (EQUAL - 1) // 2 + 1)
+)
 EXAMPLE, SUFFIXED = '    "y" "x" (*) "z"', f'    "y" "x" (*){" N" * (CHAIN - 1)} "z"'
 DEEP = {
     # (those that take long come first)
@@ -184,6 +189,7 @@ DEEP = {
     "explained_reductions": lambda: tail_of_chain("explain", REDUCTIONS, 2 * [REDUCED, EXAMPLE]),
     "explained_shift": lambda: tail_of_chain("explain", SHIFT, [REDUCED, EXAMPLE, '  shift "z"', f'{EXAMPLE} "z"']),
     "explained_suffixes": lambda: tail_of_chain("explain", SUFFIXES, 2 * [REDUCED, SUFFIXED]),
+    "explained_equal_lines": lambda: trial(EQUAL * ['S = "x"'], "S explain", printed(EXPLAINED, 1)),
     "reported_reductions": lambda: tail_of_chain("report", REDUCTIONS),
     "reported_shift": lambda: tail_of_chain("report", SHIFT),
 }

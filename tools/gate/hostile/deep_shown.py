@@ -8,8 +8,8 @@ import re
 
 from gate.hostile import reading
 from gate.hostile.deep import (
-    BLANKS, CYCLE, DOUBLED, FEW, LANE, LARGE_STACK, LEAF, LISTS, MANY, MEGABYTE, NO_MEMORY, SMALL_STACK, SUFFIXES, UNITS,
-    chain, check_same, check_text, little, marked, marks, trial,
+    BLANKS, CYCLE, DOUBLED, EQUAL, FEW, LANE, LARGE_STACK, LEAF, LISTS, MANY, MEGABYTE, NO_MEMORY, SMALL_STACK,
+    SUFFIXES, UNITS, chain, check_same, check_text, little, marked, marks, trial,
 )
 from gate.hostile.shown_verdicts import check_data, check_shown
 from gate.hostile.verdicts import Answer, Request
@@ -18,7 +18,7 @@ from gate.shown import data as shown_data
 from gate.shown.data import expect
 from gate.shown.places import Finding, lines_of
 
-EQUAL, STATES, RING = 142, 400, 400
+STATES, RING = 400, 400
 # How deep a tree is whose lines are written. Each level has two blanks more than the one before.
 LEVELS = 3_000
 NAME, WORD, LONG = "N" * 500_000, "<" * 100_000, "S = " + '"x" ' * 5_000
