@@ -2,8 +2,6 @@
 // recursion.
 ghost use Rattle.lalrpop_base.specs.Words.{IsWellFormed};
 
-use crate::asked::text_of;
-use crate::witnesses::bare;
 use lalrpop_ambiguity::derivation::Derivation;
 use lalrpop_ambiguity::witness::{Ambiguity, is_witness};
 use lalrpop_base::memory::OutOfMemory;
@@ -14,6 +12,15 @@ use std::test::Fail;
 use test_fixtures::texts::first_production;
 
 const DEPTH: usize = 100_000;
+
+// A derivation whose symbols at the leaves are those of the production.
+fn bare<'g>(alloc: Global, production: &'g Production) -> Result<Derivation<'g>, OutOfMemory> {
+    let mut children = Vec::new(alloc);
+    for symbol in production.symbols.as_slice() {
+        children.push(Derivation::Leaf(symbol.clone(alloc)?))?;
+    }
+    Ok(Derivation::Node(production, children))
+}
 
 fn deep<'g>(alloc: Global, sum: &'g Production) -> Result<Derivation<'g>, OutOfMemory> {
     let mut tree = bare(alloc, sum)?;
@@ -37,7 +44,8 @@ pub(crate) fn deep_pair(alloc: Global, grammar: &Grammar) -> Result<String, Fail
     let left = deep(alloc, first_production(alloc, grammar, "E")?)?;
     let right = left.clone(alloc)?;
     let found = Ambiguity { left, right };
-    text_of(alloc, is_deep(alloc, grammar, &found)?)
+    let is_so = is_deep(alloc, grammar, &found)?;
+    Ok(format!(in alloc; "{is_so}")?)
 }
 
 // Whether it is so for two derivations.
@@ -48,14 +56,17 @@ fn is_deep(alloc: Global, grammar: &Grammar, found: &Ambiguity<'_>) -> Result<bo
     if !is_twice || is_witness(alloc, grammar, &found.left, &found.right)? {
         return Ok(false);
     }
-    Ok(has_texts(alloc, &found.left)? && has_marks(alloc, found)?)
+    if found.clone(alloc)? != *found {
+        return Ok(false);
+    }
+    Ok(has_texts(alloc, found)? && has_marks(alloc, found)?)
 }
 
-// Whether a deep derivation has so many leaves, and the right end of its text.
-fn has_texts(alloc: Global, tree: &Derivation<'_>) -> Result<bool, Fail> {
-    let count = tree.leaves(alloc)?.len();
-    let text = format!(in alloc; "{tree}")?;
-    Ok(count == 2 * DEPTH + 3 && text.as_str().ends_with("\"+\" E]"))
+// Whether a deep derivation has so many leaves, and its text for debugging has the right end.
+fn has_texts(alloc: Global, found: &Ambiguity<'_>) -> Result<bool, Fail> {
+    let count = found.left.leaves(alloc)?.len();
+    let text = format!(in alloc; "{found:?}")?;
+    Ok(count == 2 * DEPTH + 3 && text.as_str().ends_with("\"+\" E] }"))
 }
 
 // Whether all moves of two derivations are in common, and the mark of the first is at its end.

@@ -1,8 +1,7 @@
 // Searches of small grammars. The expected witnesses are the shortest ones, worked out by hand.
 ghost use Rattle.lalrpop_base.specs.Words.{IsWellFormed};
 
-use crate::asked::{Ask, Case, OfConflicts, expect};
-use crate::marks::marked_line;
+use crate::derivations::deep_pair;
 use grammar_text::symbols::name_of;
 use lalrpop_ambiguity::search::{Search, find_ambiguity};
 use lalrpop_base::lookahead::nil::Nil;
@@ -12,12 +11,13 @@ use lalrpop_construction::construction::canonical::build_canonical_states;
 use lalrpop_construction::construction::lr::Lr;
 use std::alloc::Global;
 use std::test::Fail;
+use test_fixtures::texts::grammar;
 
-/// Sums and products without precedence.
-pub(crate) const CALCULATOR: &str = "S = E\nE = E \"+\" E\nE = E \"*\" E\nE = \"NUM\"";
+// Sums and products without precedence.
+const CALCULATOR: &str = "S = E\nE = E \"+\" E\nE = E \"*\" E\nE = \"NUM\"";
 
 // The conflicts of the canonical states for the start symbol `S`.
-pub(crate) fn conflicts<'g>(
+fn conflicts<'g>(
     alloc: Global,
     grammar: &'g Grammar,
 ) -> Result<Lr1TableConstructionError<'g>, Fail>
@@ -30,34 +30,63 @@ pub(crate) fn conflicts<'g>(
     }
 }
 
-/// What is found for each conflict in so many steps, in lines, with marks or without.
-pub(crate) fn lines<'g>(
+// What is found for each conflict in so many steps, in lines.
+fn lines<'g>(
     alloc: Global,
     grammar: &'g Grammar,
     error: &Lr1TableConstructionError<'g>,
     steps: usize,
-    is_marked: bool,
 ) -> Result<String, Fail>
     requires { IsWellFormed grammar.now }
 {
     let mut lines = String::new(alloc);
     for conflict in &error.conflicts {
         let search = find_ambiguity(alloc, grammar, &error.states, conflict, steps)?;
-        lines.push_str(line(alloc, &search, is_marked)?.as_str())?;
+        lines.push_str(line(alloc, &search)?.as_str())?;
     }
     Ok(lines)
 }
 
 // What is found, in a line.
-fn line(alloc: Global, search: &Search<'_>, is_marked: bool) -> Result<String, Fail> {
-    if is_marked {
-        return marked_line(alloc, search);
-    }
+fn line(alloc: Global, search: &Search<'_>) -> Result<String, Fail> {
     match search {
         Search::Found(found) => Ok(format!(in alloc; "{} {}\n", found.left, found.right)?),
         Search::Exhausted => Ok(format!(in alloc; "exhausted\n")?),
         Search::Cut => Ok(format!(in alloc; "cut\n")?),
     }
+}
+
+// What is asked of a grammar: searches of so many steps, or deep derivations.
+#[derive(Clone, Copy)]
+enum Ask {
+    Searched(usize),
+    Deep,
+}
+
+// The answer for the grammar of a text. This function alone owns a grammar, and `of_conflicts`
+// alone owns states and conflicts. Each function that owns such a value has to prove that it drops
+// each part of it.
+fn answer(alloc: Global, ask: Ask, text: &str) -> Result<String, Fail> {
+    let grammar = grammar(alloc, text)?;
+    answer_of(alloc, ask, &grammar)
+}
+
+// The answer for a grammar.
+fn answer_of(alloc: Global, ask: Ask, grammar: &Grammar) -> Result<String, Fail>
+    requires { IsWellFormed grammar.now }
+{
+    match ask {
+        Ask::Searched(steps) => of_conflicts(alloc, grammar, steps),
+        Ask::Deep => deep_pair(alloc, grammar),
+    }
+}
+
+// The answer for the conflicts of a grammar.
+fn of_conflicts(alloc: Global, grammar: &Grammar, steps: usize) -> Result<String, Fail>
+    requires { IsWellFormed grammar.now }
+{
+    let error = conflicts(alloc, grammar)?;
+    lines(alloc, grammar, &error, steps)
 }
 
 const CALCULATOR_FOUND: &str = "\
@@ -85,30 +114,44 @@ const OPERATORS_FOUND: &str = "\
 [X: [X: X B X] [B: \"-\"] X] [X: X B [X: X [B: \"-\"] X]]
 ";
 
-/// A grammar that needs two tokens of lookahead, and is unambiguous.
-pub(crate) const TWO_TOKENS: &str = "S = A \"x\" \"y\"\nS = B \"x\" \"z\"\nA = \"a\"\nB = \"a\"";
+// A grammar that needs two tokens of lookahead, and is unambiguous.
+const TWO_TOKENS: &str = "S = A \"x\" \"y\"\nS = B \"x\" \"z\"\nA = \"a\"\nB = \"a\"";
 
 // An unambiguous grammar whose derivations have no greatest length.
 const MIRRORED: &str = "S = P\nP = \"a\" P \"a\"\nP =";
 
-const SEARCHED: Ask = Ask::Conflicts(OfConflicts::Searched(1000));
+// What is asked, a grammar and the expected answer.
+type Case = (Ask, &'static str, &'static str);
 
-// The last grammar but one has a production twice. The last search has too few steps.
-const SEARCHES: [Case; 7] = [
-    (SEARCHED, CALCULATOR, CALCULATOR_FOUND),
-    (SEARCHED, DANGLING_ELSE, DANGLING_ELSE_FOUND),
-    (SEARCHED, OPERATORS, OPERATORS_FOUND),
-    (SEARCHED, TWO_TOKENS, "exhausted\n"),
-    (SEARCHED, MIRRORED, "exhausted\ncut\n"),
-    (SEARCHED, "S = \"a\"\nS = \"a\"", "[S: \"a\"] [S: \"a\"]\n"),
+// One grammar has a production twice. The last search has too few steps.
+const CASES: [Case; 8] = [
+    (Ask::Searched(1000), CALCULATOR, CALCULATOR_FOUND),
+    (Ask::Searched(1000), DANGLING_ELSE, DANGLING_ELSE_FOUND),
+    (Ask::Searched(1000), OPERATORS, OPERATORS_FOUND),
+    (Ask::Searched(1000), TWO_TOKENS, "exhausted\n"),
+    (Ask::Searched(1000), MIRRORED, "exhausted\ncut\n"),
     (
-        Ask::Conflicts(OfConflicts::Searched(1)),
-        CALCULATOR,
-        "cut\ncut\ncut\ncut\n",
+        Ask::Searched(1000),
+        "S = \"a\"\nS = \"a\"",
+        "[S: \"a\"] [S: \"a\"]\n",
     ),
+    (Ask::Searched(1), CALCULATOR, "cut\ncut\ncut\ncut\n"),
+    (Ask::Deep, CALCULATOR, "true"),
 ];
+
+// Fails unless each answer is the expected one. The proof of a test that compares takes as long as
+// that of a large function.
+fn expect(alloc: Global, cases: &[Case]) -> Result<(), Fail> {
+    for (ask, text, expected) in cases {
+        let answer = answer(alloc, *ask, text)?;
+        if answer.as_str() != *expected {
+            return Err(Fail::new(format_args!("{answer} is not {expected}")));
+        }
+    }
+    Ok(())
+}
 
 #[test]
 fn searches(rt: HostRuntime) -> Result<(), Fail> {
-    expect(rt.alloc(), &SEARCHES)
+    expect(rt.alloc(), &CASES)
 }
