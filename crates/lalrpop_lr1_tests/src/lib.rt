@@ -1,10 +1,8 @@
-//! Tests of the parser and of inlining that no case file can express: values that no text gives, and
-//! what is left after a refused allocation.
+//! Tests of parse trees and examples that no case file can express: deep trees, and copies whose
+//! allocations are refused.
 #![tactic(auto)]
 
 #[cfg(test)]
-mod allocation_failures;
-#[cfg(test)]
-mod inlining;
+mod copies;
 #[cfg(test)]
 mod trees;
