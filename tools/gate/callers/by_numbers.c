@@ -5,7 +5,9 @@
  * with items. Some of the numbers are changed or cut off before. Each call is made with a random room
  * and with just enough, and each list of numbers ends before memory that no program may touch. Nothing
  * around the room may be written. With numbers that are not changed, the answers must be those of the
- * parser below, which follows docs/FORMATS.md. Prints how often each status was returned.
+ * parser below, which follows docs/FORMATS.md. Each call must report a fault of numbers with another
+ * mark or version, and of numbers that end before those of state 0 do. Prints how often each status was
+ * returned by the random calls.
  */
 #define _GNU_SOURCE
 #include <lr1.h>
@@ -296,6 +298,34 @@ static uint8_t try_call(size_t number)
     return first.status;
 }
 
+/* Each call reports a fault of so many numbers. State 0, token 0 and nonterminal 0 are asked for. */
+static void expect_faults(size_t count, size_t number)
+{
+    uint32_t *numbers = tables_memory.end - count;
+    memcpy(numbers, tables, count * sizeof *numbers);
+    struct call it = {.numbers = numbers, .count = count, .tokens = tokens_memory.end, .limit = 200};
+    for (it.kind = 0; it.kind < 4; it.kind++) {
+        struct answer to;
+        with_room(&it, 1, &to, number);
+        expect(to.status == LR1_FAULT && to.length == 0, "no fault of numbers that are not those of tables", number);
+    }
+}
+
+/* Numbers with another mark or version, and numbers that end before the block of state 0 does. */
+static void try_faults(size_t number)
+{
+    size_t end = block_of(0);
+    for (int list = 0; list < 3; list++)
+        pair_of(&end, 0);
+    for (size_t count = 0; count < end; count++)
+        expect_faults(count, number);
+    for (size_t place = 0; place < 2; place++) {
+        tables[place]++;
+        expect_faults(tables_length, number);
+        tables[place]--;
+    }
+}
+
 int main(int count, char **words)
 {
     size_t statuses[4] = {0}, number = 0;
@@ -311,6 +341,7 @@ int main(int count, char **words)
         expect(made == LR1_OK && tables_length <= MOST, "a text has no tables", number);
         for (size_t last = number + strtoul(words[1], NULL, 10); number < last; number++)
             statuses[try_call(number)]++;
+        try_faults(number);
     }
     printf("%zu calls, %zu of status 0, %zu of status 1, %zu of status 2\n", number, statuses[0], statuses[1], statuses[2]);
     return statuses[0] > 0 && statuses[1] > 0 && statuses[2] > 0 && statuses[3] == 0 ? 0 : 1;

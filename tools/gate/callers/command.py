@@ -16,7 +16,8 @@ filled. If none is given, it is made over the libraries that `rt ci` left, and s
   another number before the first token set, or without the last numbers.
 - 100,000 random calls take such numbers, of which half are changed or cut off. None writes outside the
   room, or reads outside the numbers. With numbers that are as they were, the answers are those of a
-  parser that follows docs/FORMATS.md.
+  parser that follows docs/FORMATS.md. Numbers with another mark or version, and those that end before
+  the numbers of state 0 do, have the status of a fault.
 - Each allocation of some questions is refused in turn, alone and with all after it. The status is 3,
   and nothing leaks. If one is refused alone, the answer may also be the right one, since a list that
   finds no room to spare grows by less.
