@@ -13,7 +13,8 @@ filled. If none is given, it is made over the libraries that `rt ci` left, and s
 - Some texts have the numbers of their tables that docs/FORMATS.md gives them, with rooms of each size.
   Some numbers have the verdict of the check that it gives them.
 - The tables of each stored grammar, by both methods, are faithful by the check. They are not with
-  another number before the first token set, or without the last numbers.
+  another number before the first token set, or without the last numbers. They are if the tokens of
+  each set descend.
 - 100,000 random calls take such numbers, of which half are changed or cut off. None writes outside the
   room, or reads outside the numbers. With numbers that are as they were, the answers are those of a
   parser that follows docs/FORMATS.md. Numbers with another mark or version, and those that end before

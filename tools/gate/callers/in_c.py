@@ -12,14 +12,15 @@ ASAN = ("-fsanitize=address", "-g")
 # How many random questions there are, and how much of one is printed.
 RANDOM, LONGEST = 20_000, 300
 
-# The numbers with items of the canonical tables of the first text below.
+# The numbers of the canonical tables of the first text below, and these with items.
+PLAIN = "1280454996 1 0 1 2 2 1 3 16 18 25 30 0 1 1 1 1 1 1 0 2 1 0 1 0 0 0 1 1 0 0 0 1 0 0"
 WHOLE = (
     "1280454996 1 3 1 2 2 1 3 19 21 28 33 38 45 49 0 1 1 1 1 1 1 0 2 1 0 1 0 0 0 1 1 0 0 0 1 0 0 2 0 0 0 1 0 0 1 1 1 0 "
     "1 0 1 0"
 )
 # Words of a call for canonical tables, each with the status and the numbers by docs/FORMATS.md.
 NUMBERS = (
-    (('S = A\nA = "x"', "S"), "0 1280454996 1 0 1 2 2 1 3 16 18 25 30 0 1 1 1 1 1 1 0 2 1 0 1 0 0 0 1 1 0 0 0 1 0 0"),
+    (('S = A\nA = "x"', "S"), f"0 {PLAIN}"),
     (('S = A\nA = "x"', "S", "items"), f"0 {WHOLE}"),
     # A nonterminal that is inlined, which keeps its number; and a right side twice, of a name that is not reached.
     (('S = A "x"\nA =\ninline A', "S"), "0 1280454996 1 0 1 2 2 1 2 15 17 22 0 0 1 1 1 1 1 0 1 0 0 0 0 1 1 0"),
@@ -30,18 +31,53 @@ NUMBERS = (
     # (a byte that is no UTF-8)
     (('S = "\udcff"', "S"), "2"), (('S = "x"', "S\udcff"), "2"),
 )
+OTHER = "1 the tables are not faithful\n"
+NOTHING = "2 the tables: state {} has a number that names nothing, or a name twice\n"
+WRONG = "2 the tables: place {}: the number is not the one of the tables\n"
+CUT_OFF = "2 the tables: place {}: the numbers end before the tables\n"
+SIDES = "2 the tables: the productions are not those of the grammar\n"
 # A place of the numbers with items, another number there, and the status and the message of the check.
-# A place of None is a number of numbers. The first five are the examples of docs/FORMATS.md.
+# A place of None is a number of numbers. The first ones are the examples of docs/FORMATS.md.
 CHECKS = (
     (0, 1280454996, "0 "),
-    (44, 1, "2 the tables: state 0 has a number that names nothing, or a name twice\n"),
-    (8, 20, "2 the tables: place 8: the number is not the one of the tables\n"),
-    (None, 52, "2 the tables: place 52: the numbers end before the tables\n"),
-    (40, 1, "1 the tables are not faithful\n"),
-    (23, 1, "1 the tables are not faithful\n"),
+    (44, 1, NOTHING.format(0)),
+    (8, 20, WRONG.format(8)),
+    (None, 52, CUT_OFF.format(52)),
+    (40, 1, OTHER),
+    (0, 1280454997, "2 the tables: place 0: the numbers are not those of tables\n"),
     (1, 2, "2 the tables: place 1: version 2 is unknown\n"),
     (3, 2, "2 the tables: place 3: the grammar does not have 2 terminals\n"),
-    (None, 0, "2 the tables: place 0: the numbers end before the tables\n"),
+    (4, 3, "2 the tables: place 4: the grammar does not have 3 nonterminals\n"),
+    (11, 34, WRONG.format(11)),
+    (12, 39, WRONG.format(12)),
+    # the length and the nonterminal of a production
+    (16, 2, SIDES),
+    (17, 0, SIDES),
+    # the token of the set: no token, and another one
+    (20, 3, "2 the tables: token set 0 has a number that is no token's\n"),
+    (20, 0, OTHER),
+    # Without its shift, state 0 has two reductions, and ends at the same place.
+    (21, 0, OTHER),
+    # the terminal and the target of a shift, and the nonterminal of a goto
+    (22, 1, NOTHING.format(0)),
+    (23, 3, NOTHING.format(0)),
+    (23, 1, OTHER),
+    (25, 2, NOTHING.format(0)),
+    # With one pair more, these lists of pairs end at the same places.
+    (29, 1, OTHER),
+    (33, 1, OTHER),
+    (34, 1, OTHER),
+    # the production of a reduction, and its set
+    (31, 2, NOTHING.format(1)),
+    (37, 1, NOTHING.format(2)),
+    # the production, the dot and the set of an item
+    (39, 2, NOTHING.format(0)),
+    (40, 2, NOTHING.format(0)),
+    (41, 1, NOTHING.format(0)),
+    (46, 2, NOTHING.format(1)),
+    (51, 2, NOTHING.format(2)),
+    (None, 0, CUT_OFF.format(0)),
+    (None, 20, CUT_OFF.format(20)),
 )
 
 # Texts by whose tables random calls are made, and how many for each.
@@ -189,14 +225,11 @@ def checks(library, room):
     for place, number, expected in CHECKS:
         numbers = whole[:number] if place is None else [*whole[:place], str(number), *whole[place + 1 :]]
         rows.append(((text, "S", *numbers), expected))
-    # Another start symbol, another grammar with the same lists of productions, and faults of text and start symbol.
     rows += [
-        ((text, "A", *whole), "1 the tables are not faithful\n"),
-        (('S = "x"\nA = "x"', "S", *whole), "1 the tables are not faithful\n"),
         ((text, "T", *whole), "2 the start symbol is no nonterminal\n"),
-        ((text, "S\udcff", *whole), "2 the start symbol is not UTF-8\n"),
-        (("S = A\nA = A\ninline A", "S", *whole), "2 cyclic inline of A\n"),
-        (('S = "\udcff"', "S", *whole), "2 cannot read grammar\n"),
+        (('S = "x"', "S", *whole), "2 the tables: place 4: the grammar does not have 2 nonterminals\n"),
+        ((text, "S", *PLAIN.split()), "2 the tables: place 2: 0 lists of items are not one for each state\n"),
+        ((text, "S", *whole, "0"), WRONG.format(len(whole))),
     ]
     return f"{len(rows)} calls", unexpected(program, rows, variables)
 

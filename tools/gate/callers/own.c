@@ -3,11 +3,12 @@
  *
  * Checks the tables that the library makes, with items. A question is a grammar text and a start
  * symbol. The tables must be faithful. With another number before the first token set, or without the
- * last numbers, they must not be, since tables are laid out in one way.
+ * last numbers, they must not be, since tables are laid out in one way. They must be faithful if the
+ * tokens of each set descend, since a set may have its tokens in any order.
  */
 #include "questions.h"
 
-enum { ROOM = 1 << 22, CUTS = 20, FIRST = 8 };
+enum { ROOM = 1 << 22, CUTS = 20, SETS = 6, FIRST = 8 };
 
 static uint32_t numbers[ROOM];
 static uint8_t message[1000];
@@ -53,6 +54,19 @@ static void cut(const struct question *it, size_t count, size_t number)
             fault(number, "tables that are cut off are faithful");
 }
 
+/* Reverses the tokens of each set of so many numbers. */
+static void reverse_sets(size_t length)
+{
+    for (size_t set = 0; set < numbers[SETS]; set++) {
+        const size_t place = numbers[FIRST + set];
+        for (size_t low = place + 1, high = place + numbers[place]; low < high && high < length; low++, high--) {
+            const uint32_t kept = numbers[low];
+            numbers[low] = numbers[high];
+            numbers[high] = kept;
+        }
+    }
+}
+
 int main(int count, char **arguments)
 {
     if (count != 2)
@@ -73,6 +87,9 @@ int main(int count, char **arguments)
             fault(number, "its own tables are refused");
         changed += change_each(&it, length, number);
         cut(&it, length, number);
+        reverse_sets(length);
+        if (checked(&it, length, number) != LR1_OK)
+            fault(number, "tables are refused if tokens descend");
         faithful++;
     }
     free((void *)questions);

@@ -303,7 +303,8 @@ class Checks(unittest.TestCase):
     def test_checks(self):
         with tempfile.TemporaryDirectory() as room:
             said, faults = in_c.checks(library(room, 0), room)
-        self.assertEqual((said, len(faults)), ("16 calls", 16))
+        count = 5 + len(in_c.CHECKS)
+        self.assertEqual((said, len(faults)), (f"{count} calls", count))
         self.assertIn("has '1 6131221391", faults[1])
 
     def test_faults(self):
