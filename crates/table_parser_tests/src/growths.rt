@@ -2,7 +2,6 @@
 
 use super::asked::{Ask, expect};
 use super::tables::{nodes, run};
-use super::values::Counts;
 use parse_nodes::error::NodeError;
 use parse_tables::table::ParseTable;
 use refused_growth::attempts::Attempt;
@@ -10,17 +9,31 @@ use std::alloc::Global;
 use std::test::Fail;
 use table_parser::error::TableParseError;
 use table_parser::expected::expected_after;
-use table_parser::handler::Silent;
-use table_parser::values::{ValueError, ValueStack};
+use table_parser::values::{SemanticActions, ValueError, ValueStack};
 use test_fixtures::growths::each_growth_refused;
 use test_fixtures::texts::SUMS;
 
-// A run.
-fn silent(alloc: Global, table: &ParseTable, bits: &[u32]) -> Option<bool> {
-    match run(alloc, table, 100, bits, &mut Silent) {
-        Ok(()) => Some(true),
-        Err(TableParseError::Memory) => None,
-        Err(_) => Some(false),
+// The value of a terminal is 1, and that of a reduction is the length of its right side.
+#[derive(Drop)]
+struct Lengths;
+
+impl SemanticActions for Lengths {
+    type Value = usize;
+
+    type Stop = u32;
+
+    fn shift(&mut self, _position: usize, _bit: u32) -> Result<usize, u32> {
+        Ok(1)
+    }
+
+    fn reduce(
+        &mut self,
+        _production: u32,
+        values: &mut Vec<usize>,
+        _first: usize,
+        _end: usize,
+    ) -> Result<usize, u32> {
+        Ok(values.len())
     }
 }
 
@@ -35,7 +48,7 @@ fn expected(alloc: Global, table: &ParseTable, bits: &[u32]) -> Option<bool> {
 
 // A run that makes values, which have no memory of their own.
 fn values(alloc: Global, table: &ParseTable, bits: &[u32]) -> Option<bool> {
-    let mut stack = ValueStack::new(alloc, Counts { most: 3 });
+    let mut stack = ValueStack::new(alloc, Lengths);
     match run(alloc, table, 100, bits, &mut stack) {
         Ok(()) => Some(stack.into_value().is_some()),
         Err(TableParseError::Memory) => None,
@@ -60,7 +73,6 @@ fn tree(alloc: Global, table: &ParseTable, bits: &[u32]) -> Option<bool> {
 // What is asked.
 #[derive(Clone, Copy)]
 enum Call {
-    Run,
     Expected,
     Values,
     Tree,
@@ -77,7 +89,6 @@ struct Asked<'a> {
 impl Attempt for Asked<'_> {
     fn attempt(&mut self, alloc: Global) -> Option<bool> {
         match self.call {
-            Call::Run => silent(alloc, self.table, self.bits),
             Call::Expected => expected(alloc, self.table, self.bits),
             Call::Values => values(alloc, self.table, self.bits),
             Call::Tree => tree(alloc, self.table, self.bits),
@@ -87,15 +98,16 @@ impl Attempt for Asked<'_> {
 
 /// Makes each call while its allocations are refused.
 pub fn each_call(alloc: Global, table: &ParseTable, bits: &[u32]) -> Result<String, Fail> {
-    for call in [Call::Run, Call::Expected, Call::Values, Call::Tree] {
+    for call in [Call::Expected, Call::Values, Call::Tree] {
         let mut asked = Asked { call, table, bits };
         each_growth_refused(alloc, &mut asked)?;
     }
     Ok(String::new(alloc))
 }
 
+// The bits are those of N - ( N - N ).
 #[test]
 fn calls_report_allocation_failures(rt: HostRuntime) -> Result<(), Fail> {
-    let words: &[&str] = &["N", "-", "(", "N", "-", "N", ")"];
-    expect(rt.alloc(), Ask::EachCall, &[(SUMS, words, "")])
+    let bits: &[u32] = &[3, 2, 0, 3, 2, 3, 1];
+    expect(rt.alloc(), Ask::EachCall, &[(SUMS, bits, "")])
 }

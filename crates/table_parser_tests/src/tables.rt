@@ -1,9 +1,8 @@
-// Tables of grammars, the bits of words, and runs over bits.
+// Tables of grammars, and runs over bits.
 //
 // All tests run a parser by the functions here, which promise nothing of the run.
 
 use grammar_text::symbols::name_of;
-use lalrpop_base::repr::TerminalString;
 use lalrpop_tables::build::options::Options;
 use lalrpop_tables::lr1::build_states;
 use parse_nodes::error::NodeError;
@@ -47,67 +46,10 @@ pub fn nodes(
     parse_nodes(alloc, table, limit, bits.iter().copied())
 }
 
-/// 5,000,001 names with a sign between each two.
-pub fn long(alloc: Global, name: u32, sign: u32) -> Result<Vec<u32>, Fail> {
-    let mut bits = Vec::new(alloc);
-    for _ in 0..5_000_000 {
-        bits.push(name)?;
-        bits.push(sign)?;
-    }
-    bits.push(name)?;
-    Ok(bits)
-}
-
-/// A name on the last of 1,000,000 levels.
-pub fn deep(alloc: Global, name: u32, open: u32, close: u32) -> Result<Vec<u32>, Fail> {
-    let mut bits = Vec::new(alloc);
-    push_all(&mut bits, open)?;
-    bits.push(name)?;
-    push_all(&mut bits, close)?;
-    Ok(bits)
-}
-
-// Adds 1,000,000 times the same.
-fn push_all(bits: &mut Vec<u32>, bit: u32) -> Result<(), Fail> {
-    for _ in 0..1_000_000 {
-        bits.push(bit)?;
-    }
-    Ok(())
-}
-
 /// The line of a production in the text of the grammar, counted from 0.
 pub fn line_of(table: &ParseTable, production: u32) -> usize {
     match table.productions().get(production as usize) {
         Some(production) => production.action.index(),
         None => usize::MAX,
-    }
-}
-
-/// The bits of words. A word that is no terminal has a number that no terminal has.
-pub fn bits(alloc: Global, table: &ParseTable, words: &[&str]) -> Result<Vec<u32>, Fail> {
-    let mut bits = Vec::new(alloc);
-    for word in words {
-        bits.push(bit(table, word))?;
-    }
-    Ok(bits)
-}
-
-// The bit of a word.
-fn bit(table: &ParseTable, word: &str) -> u32 {
-    let mut bit: u32 = 0;
-    for terminal in table.terminals().all() {
-        if is_literal(terminal, word) {
-            return bit;
-        }
-        bit = bit.saturating_add(1);
-    }
-    u32::MAX
-}
-
-// Whether a terminal is the literal of a word.
-fn is_literal(terminal: &TerminalString, word: &str) -> bool {
-    match terminal {
-        TerminalString::Literal(text) => text.as_str() == word,
-        _ => false,
     }
 }
