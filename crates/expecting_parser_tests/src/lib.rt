@@ -1,9 +1,6 @@
-//! Tests of refusals with expected tokens: reports, values and nodes, the names of tokens, and
-//! allocation failure.
+//! Tests of refusals with expected tokens: reports, and allocation failure.
 #![tactic(auto)]
 
-#[cfg(test)]
-mod forms;
 #[cfg(test)]
 mod growths;
 #[cfg(test)]

@@ -1,9 +1,8 @@
-// What is reported of inputs, and the names of sets of tokens.
+// What is reported of inputs.
 
 use expecting_parser::error::ExpectingError;
 use expecting_parser::names::expected_text;
 use expecting_parser::parse::parse_expecting;
-use lalrpop_base::lookahead::token_set::TokenSet;
 use parse_tables::table::ParseTable;
 use std::alloc::Global;
 use std::process::Abort;
@@ -58,30 +57,6 @@ pub(super) fn expect_reports(
 ) -> Result<(), Fail> {
     for (bits, limit, expected) in REPORTS {
         let text = report(alloc, table, bits, limit)?;
-        assert_eq!(rt; text.as_str(), expected);
-    }
-    Ok(())
-}
-
-// The names of the tokens with these bits.
-fn names(alloc: Global, table: &ParseTable, bits: &[usize]) -> Result<String, Fail> {
-    let mut tokens = TokenSet::empty_set(alloc);
-    for bit in bits {
-        tokens.insert_bit(*bit % 5)?;
-    }
-    Ok(expected_text(alloc, table, &tokens)?)
-}
-
-const NAMES: [(&[usize], &str); 3] = [
-    (&[], ""),
-    (&[4], "end of input"),
-    (&[3, 0, 2], "\"(\", \"-\" or \"N\""),
-];
-
-/// Names are listed.
-pub(super) fn expect_names(rt: &impl Abort, alloc: Global, table: &ParseTable) -> Result<(), Fail> {
-    for (bits, expected) in NAMES {
-        let text = names(alloc, table, bits)?;
         assert_eq!(rt; text.as_str(), expected);
     }
     Ok(())

@@ -1,8 +1,7 @@
 // The table of a grammar of sums, and all that is tried with it.
 
-use super::forms::{expect_nodes, expect_refusal, expect_values};
 use super::growths::refuse_all;
-use super::reports::{expect_names, expect_reports};
+use super::reports::expect_reports;
 use grammar_text::symbols::name_of;
 use lalrpop_tables::build::options::Options;
 use lalrpop_tables::lr1::build_states;
@@ -22,25 +21,15 @@ fn sums(alloc: Global) -> Result<ParseTable, Fail> {
     Ok(ParseTable::new(alloc, &grammar, &states)?)
 }
 
-// Tries each call.
+// Tries inputs, and then refuses allocations.
 fn expect_all(rt: &impl Abort, alloc: Global, table: &ParseTable) -> Result<(), Fail> {
-    expect_values(rt, alloc, table);
-    expect_nodes(rt, alloc, table)?;
-    expect_refusal(rt, alloc, table)?;
     expect_reports(rt, alloc, table)?;
-    expect_names(rt, alloc, table)
+    refuse_all(rt, alloc, table)
 }
 
 #[test]
-fn inputs(rt: HostRuntime) -> Result<(), Fail> {
+fn refusals_have_the_expected_tokens(rt: HostRuntime) -> Result<(), Fail> {
     let alloc = rt.alloc();
     let table = sums(alloc)?;
     expect_all(&rt, alloc, &table)
-}
-
-#[test]
-fn refused_allocations(rt: HostRuntime) -> Result<(), Fail> {
-    let alloc = rt.alloc();
-    let table = sums(alloc)?;
-    refuse_all(&rt, alloc, &table)
 }
