@@ -1,5 +1,4 @@
-//! Tests of parses for a start symbol on right sides: the steps, nodes, refusals and expected tokens
-//! of one grammar, and the numbers of productions.
+//! Tests of parses for a start symbol on right sides: the nodes and refusals of one grammar.
 #![tactic(auto)]
 
 #[cfg(test)]
