@@ -1,5 +1,5 @@
-//! Tests of runs by parse tables that no case file can express: nodes with their labels and
-//! children, and allocation failure.
+//! Tests of parse tables, and of runs by them, that no case file can express: tables as numbers,
+//! nodes with their labels and children, and allocation failure.
 #![tactic(auto)]
 
 #[cfg(test)]
@@ -8,5 +8,7 @@ mod asked;
 mod growths;
 #[cfg(test)]
 mod nodes;
+#[cfg(test)]
+mod numbers;
 #[cfg(test)]
 mod tables;
