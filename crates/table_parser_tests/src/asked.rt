@@ -5,16 +5,18 @@
 
 use super::growths::each_call;
 use super::nodes::parsed;
+use super::reports::report;
 use super::tables::table;
 use parse_tables::table::ParseTable;
 use std::alloc::Global;
 use std::test::Fail;
 
-/// What is asked.
+/// What is asked. A report has a limit of steps.
 #[derive(Clone, Copy)]
 pub enum Ask {
     EachCall,
     Parsed,
+    Report(usize),
 }
 
 /// The answer of the table of a grammar, whose start symbol is `S`, for bits.
@@ -28,6 +30,7 @@ fn answer_of(alloc: Global, ask: Ask, table: &ParseTable, bits: &[u32]) -> Resul
     match ask {
         Ask::EachCall => each_call(alloc, table, bits),
         Ask::Parsed => parsed(alloc, table, bits),
+        Ask::Report(limit) => report(alloc, table, bits, limit),
     }
 }
 

@@ -1,6 +1,7 @@
 // Runs while each allocation is refused in turn.
 
 use super::asked::{Ask, expect};
+use super::reports::refuse_reports;
 use super::tables::{nodes, run};
 use parse_nodes::error::NodeError;
 use parse_tables::table::ParseTable;
@@ -102,6 +103,7 @@ pub fn each_call(alloc: Global, table: &ParseTable, bits: &[u32]) -> Result<Stri
         let mut asked = Asked { call, table, bits };
         each_growth_refused(alloc, &mut asked)?;
     }
+    refuse_reports(alloc, table)?;
     Ok(String::new(alloc))
 }
 

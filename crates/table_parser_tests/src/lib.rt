@@ -1,5 +1,5 @@
 //! Tests of parse tables, and of runs by them, that no case file can express: tables as numbers,
-//! nodes with their labels and children, and allocation failure.
+//! nodes with their labels and children, refusals with the expected tokens, and allocation failure.
 #![tactic(auto)]
 
 #[cfg(test)]
@@ -10,5 +10,7 @@ mod growths;
 mod nodes;
 #[cfg(test)]
 mod numbers;
+#[cfg(test)]
+mod reports;
 #[cfg(test)]
 mod tables;
