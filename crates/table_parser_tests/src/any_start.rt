@@ -1,6 +1,6 @@
 // Parses by the table of an augmented grammar.
 ghost use Rattle.std.specs.Prelude.{IfOk};
-ghost use Rattle.any_start_parser_tests.specs.Premises.{ArePremisesMet};
+ghost use Rattle.table_parser_tests.specs.Premises.{ArePremisesMet};
 
 use any_start_parser::nodes::parse_nodes_from_any;
 use any_start_parser::production::only_production;

@@ -4,7 +4,7 @@ use Rattle.lalrpop_grammar.specs.declared.repr.NonterminalString.{NonterminalStr
 use Rattle.lalrpop_grammar.proofs.theory.grammars.NewStart.{is_augmented}
 use Rattle.lalrpop_states.specs.declared.lr1_core.state.State.{State}
 use Rattle.parse_tables.specs.Tables.{IsTableOf}
-use Rattle.any_start_parser_tests.proofs.forms.augmented.Goals as goal
+use Rattle.table_parser_tests.proofs.any_start.augmented.Goals as goal
 
 pub returns : goal.returns
 returns c =
