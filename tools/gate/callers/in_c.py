@@ -225,11 +225,18 @@ def checks(library, room):
     for place, number, expected in CHECKS:
         numbers = whole[:number] if place is None else [*whole[:place], str(number), *whole[place + 1 :]]
         rows.append(((text, "S", *numbers), expected))
+    # Another start symbol, another grammar with the same lists of productions, numbers without items and
+    # with one more at the end, and faults of text and start symbol.
     rows += [
-        ((text, "T", *whole), "2 the start symbol is no nonterminal\n"),
+        ((text, "A", *whole), OTHER),
+        (('S = "x"\nA = "x"', "S", *whole), OTHER),
         (('S = "x"', "S", *whole), "2 the tables: place 4: the grammar does not have 2 nonterminals\n"),
         ((text, "S", *PLAIN.split()), "2 the tables: place 2: 0 lists of items are not one for each state\n"),
         ((text, "S", *whole, "0"), WRONG.format(len(whole))),
+        ((text, "T", *whole), "2 the start symbol is no nonterminal\n"),
+        ((text, "S\udcff", *whole), "2 the start symbol is not UTF-8\n"),
+        (("S = A\nA = A\ninline A", "S", *whole), "2 cyclic inline of A\n"),
+        (('S = "\udcff"', "S", *whole), "2 cannot read grammar\n"),
     ]
     return f"{len(rows)} calls", unexpected(program, rows, variables)
 

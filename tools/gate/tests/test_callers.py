@@ -303,7 +303,7 @@ class Checks(unittest.TestCase):
     def test_checks(self):
         with tempfile.TemporaryDirectory() as room:
             said, faults = in_c.checks(library(room, 0), room)
-        count = 5 + len(in_c.CHECKS)
+        count = 10 + len(in_c.CHECKS)
         self.assertEqual((said, len(faults)), (f"{count} calls", count))
         self.assertIn("has '1 6131221391", faults[1])
 
