@@ -189,8 +189,9 @@ uint8_t lr1_parse(const uint32_t *tables, size_t tables_length, const uint32_t *
  * out, room  where the tokens go, and how many there is room for
  * length     gets how many tokens may come
  *
- * The tokens ascend. The end of the input is the number of terminals. The call tries each terminal. So
- * its time grows with the number of terminals, which is tables[3].
+ * The tokens ascend. The end of the input is the number of terminals. The call looks up the action of
+ * each terminal, and tries those that have one on a copy of the stack. So its time grows with the
+ * number of terminals, which is tables[3].
  *
  * Returns LR1_OK for the tokens, LR1_REFUSED if the given ones are refused or there are more steps
  * than the limit allows, LR1_FAULT and LR1_NO_MEMORY. *length is 0 unless it is LR1_OK. The rest is as

@@ -1,8 +1,21 @@
 -- One token more that is tried.
-use Rattle.std.proofs.Common.{◌≡◌, ◌+◌, ◌-◌, ◌<◌, ℕ, suc, List, [], ◌∷◌, ◌++◌, ap, ◌∙◌, sym, arith}
+use Rattle.std.proofs.Common.{◌≡◌, ◌+◌, ◌-◌, ◌<◌, ℕ, zero, suc, List, [], ◌∷◌, ◌++◌, ap, ◌∙◌, sym, arith}
 use Rattle.parse_calls.specs.Expected.{by_may, expected_after, expected_from, may_end, may_shift, trial}
 use Rattle.parse_calls.specs.declared.expected.May.{May}
 use Rattle.parse_calls.specs.declared.expected.May.TheVariants.{Comes, DoesNot, Unknown}
+use Rattle.parse_calls.specs.declared.machine.Ending.{Ending}
+use Rattle.parse_calls.specs.declared.machine.Ending.TheVariants.{Refused}
+use Rattle.parse_calls.specs.declared.turns.Turn.{Turn}
+use Rattle.parse_calls.specs.declared.turns.Turn.TheVariants.{Stuck}
+use Rattle.parse_calls.specs.Runs.{after_step, events_after, halted, run, stack_after, step_of}
+use Rattle.parse_calls.specs.Turns.{turn_at}
+
+-- a token without an action is refused, whatever steps are left
+pub stuck_is_refused : (tables : List ℕ) (left : ℕ) (stack : List ℕ) (token : ℕ) → Stuck ≡ turn_at tables stack token → (trial tables left stack token).ending ≡ Refused
+stuck_is_refused tables zero stack token none = sym (ap halted none)
+stuck_is_refused tables (suc left) stack token none =
+    let ending : Turn → Ending = λ t. (after_step (step_of t) (run tables left (stack_after t stack) (events_after t token []) []) (run tables left (stack_after t stack) (events_after t token []) (token ∷ [])) (λ ending. record { ending = ending; stack = stack_after t stack; events = events_after t token []; left = left; unread = token ∷ [] })).ending in
+    sym (ap ending none)
 
 module _ (tables : List ℕ) (left : ℕ) (stack : List ℕ) (end token : ℕ) (found : List ℕ) where
   module _ (within : token < end) where

@@ -5,6 +5,7 @@ ghost use Rattle.parse_calls.specs.Expected.{AreListed, IsExpected, expected_ans
 use crate::machine::{Ending, Machine};
 use crate::parse::counts_for;
 use crate::room::give;
+use crate::turns::{Turn, turn_at};
 use std::alloc::{AllocError, Global};
 
 /// Whether a token may come next. `Unknown` has the status of a call that cannot say.
@@ -152,8 +153,24 @@ fn may_end(alloc: Global, tables: &[u32], machine: &Machine, end: u32) -> Result
     }
 }
 
-// How a copy of a run ends on one token more.
+// How a copy of a run ends on one token more. A token without an action needs no copy.
 fn tried(alloc: Global, tables: &[u32], machine: &Machine, token: u32) -> Result<Ending, AllocError>
+    ensures { IfOk result (λ ending. ending ≡ (trial tables.now machine.now.left
+        machine.now.stack.items token).ending) }
+{
+    match turn_at(tables, &machine.stack, token) {
+        Turn::Stuck => Ok(Ending::Refused),
+        _ => tried_on_copy(alloc, tables, machine, token),
+    }
+}
+
+// How a copy of a run ends on one token more.
+fn tried_on_copy(
+    alloc: Global,
+    tables: &[u32],
+    machine: &Machine,
+    token: u32,
+) -> Result<Ending, AllocError>
     ensures { IfOk result (λ ending. ending ≡ (trial tables.now machine.now.left
         machine.now.stack.items token).ending) }
 {

@@ -1,9 +1,11 @@
-use Rattle.std.proofs.Common.{[], ◌∷◌, ap, sym}
-use Rattle.parse_calls.specs.Runs.{Run}
-use Rattle.parse_calls.proofs.Parses.{made_from}
+use Rattle.std.proofs.Common.{◌≡◌, ℕ, List, ap, sym, ◌∙◌}
+use Rattle.parse_calls.specs.Turns.{turn_at}
+use Rattle.parse_calls.specs.declared.turns.Turn.TheVariants.{Stuck}
+use Rattle.parse_calls.proofs.Tried.{stuck_is_refused}
 use Rattle.parse_calls.proofs.expected.tried.Goals as goal
 
-pub returns : goal.returns
-returns c =
+pub returns-in-Stuck : goal.returns-in-Stuck
+returns-in-Stuck c =
     let m = c.args.machine.now in
-    sym (ap (λ (r : Run). r.ending) (made_from c.args.tables.now (c.args.token ∷ []) m.left m.stack.items [] c.in_ok-copy.ensures.stack c.in_ok-copy.ensures.events c.in_ok-copy.ensures.left c.in_ok-end.ensures))
+    let stuck : Stuck ≡ turn_at c.args.tables.now m.stack.items c.args.token = sym c.in-Stuck.is ∙ c.turn_at.ensures ∙ ap (λ (s : List ℕ). turn_at c.args.tables.now s c.args.token) c.deref.ensures.value in
+    sym (stuck_is_refused c.args.tables.now m.left m.stack.items c.args.token stuck)
