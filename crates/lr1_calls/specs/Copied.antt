@@ -7,7 +7,7 @@ use Rattle.program_answers.specs.Texts.{line}
 
 -- the usage text of a call
 abbrev pub usage : List ℕ
-usage = line (codes "usage: START (parse LIMIT TOKEN.. | report | explain | check [--json] | conflicts | tree [--dot] TOKEN.. | json | dot [--around STATE [--depth N] | --conflicts] | html | c [--prefix NAME] | rust | python)")
+usage = line (codes "usage: START (parse LIMIT TOKEN.. | report | explain | check [--json] | conflicts | tree [--dot] TOKEN.. | json | dot [--around STATE [--depth N] | --conflicts] | html | c [--augment] [--prefix NAME] | rust [--augment] | python [--augment])")
 
 -- the text of what is shown: its output or, if that is empty, its remark
 abbrev pub shown_text : List ℕ → List ℕ → List ℕ

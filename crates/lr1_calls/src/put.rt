@@ -8,7 +8,7 @@ use lalrpop_base::text::Text;
 use program_answers::answer::{Answer, Shown};
 
 const USAGE: &str =
-    "usage: START (parse LIMIT TOKEN.. | report | explain | check [--json] | conflicts | tree [--dot] TOKEN.. | json | dot [--around STATE [--depth N] | --conflicts] | html | c [--prefix NAME] | rust | python)\n";
+    "usage: START (parse LIMIT TOKEN.. | report | explain | check [--json] | conflicts | tree [--dot] TOKEN.. | json | dot [--around STATE [--depth N] | --conflicts] | html | c [--augment] [--prefix NAME] | rust [--augment] | python [--augment])\n";
 
 /// Copies the text of a result to `out`, as much of it as fits. `length` becomes the length of the
 /// whole text. Returns the status.

@@ -9,9 +9,10 @@ use Rattle.lrshow_arguments.specs.declared.words.Request.{Request}
 use Rattle.lrshow_arguments.specs.declared.words.Choice.{Choice as ChoiceWords}
 use Rattle.lrshow_arguments.specs.declared.words.Choice.TheVariants.{All as AllWord, Near as NearWords, Conflicts as ConflictsWord}
 use Rattle.lrshow_arguments.specs.declared.words.Form.{Form as FormWords}
-use Rattle.lrshow_arguments.specs.declared.words.Form.TheVariants.{Tables as TablesWords, Tree as TreeWords, Parser as ParserWords}
+use Rattle.lrshow_arguments.specs.declared.words.Form.TheVariants.{Tables as TablesWords, Tree as TreeWords, Parser as ParserIn}
 use Rattle.lrshow_arguments.specs.declared.words.Language.{Language as LanguageWord}
 use Rattle.lrshow_arguments.specs.declared.words.Language.TheVariants.{C as CWord, Rust as RustWord, Python as PythonWord}
+use Rattle.lrshow_arguments.specs.declared.words.Parser.{Parser as ParserWords}
 use Rattle.lrshow_arguments.specs.declared.words.TableForm.{TableForm as TableFormWords}
 use Rattle.lrshow_arguments.specs.declared.words.TableForm.TheVariants.{Json as JsonWord, Graph as GraphWords, Page as PageWord, Causes as CausesWord}
 use Rattle.lrshow_arguments.specs.declared.words.Text.{Text as TextWords}
@@ -38,12 +39,19 @@ pub data Language : Type 0 where
   Rust : Language
   Python : Language
 
+-- a parser that is asked for: its language, whether the grammar gets a new start symbol, and what the
+-- names in a parser for C begin with
+pub record AskedParser : Type 0 where
+  pub language : Language
+  pub is_augmented : Bool
+  pub prefix : List ℕ
+
 -- what is shown of a grammar: its tables in a form; the parse of tokens and whether it is drawn as a
--- graph; or a parser in a language, with a prefix for its names
+-- graph; or a parser
 pub data Form : Type 0 where
   TablesIn : TableForm → Form
   TreeOf : List (List ℕ) → Bool → Form
-  ParserIn : Language → List ℕ → Form
+  ParserBy : AskedParser → Form
 
 -- a start symbol, and what is shown of the grammar
 pub record Asked : Type 0 where
@@ -101,23 +109,34 @@ tree_of (option ∷ tokens) = if bytes_eq option (codes "--dot") then TreeOf tok
 abbrev pub language_of : List ℕ → Option Language
 language_of verb = if bytes_eq verb (codes "c") then Some C else (if bytes_eq verb (codes "rust") then Some Rust else (if bytes_eq verb (codes "python") then Some Python else None))
 
--- --prefix NAME asks for a parser in C whose names begin with NAME
-abbrev pub named_parser : Language → (option prefix : List ℕ) → Option Form
-named_parser C option prefix = if bytes_eq option (codes "--prefix") && is_name prefix then Some (ParserIn C prefix) else None
-named_parser Rust option prefix = None
-named_parser Python option prefix = None
+-- --prefix NAME is an option of a parser in C
+abbrev pub is_prefix : Language → (option prefix : List ℕ) → Bool
+is_prefix C option prefix = bytes_eq option (codes "--prefix") && is_name prefix
+is_prefix Rust option prefix = false
+is_prefix Python option prefix = false
 
--- the parser that the arguments after a language ask for; without --prefix its names begin with `lr`
-abbrev pub parser_of : Language → List (List ℕ) → Option Form
-parser_of language [] = Some (ParserIn language (codes "lr"))
-parser_of language (option ∷ []) = None
-parser_of language (option ∷ prefix ∷ []) = named_parser language option prefix
-parser_of language (option ∷ prefix ∷ word ∷ words) = None
+-- a parser with a new start symbol, and with a prefix for its names
+abbrev pub augmented : AskedParser → AskedParser
+augmented p = record { language = p.language; is_augmented = true; prefix = p.prefix }
+
+abbrev pub prefixed : AskedParser → List ℕ → AskedParser
+prefixed p prefix = record { language = p.language; is_augmented = p.is_augmented; prefix = prefix }
+
+-- a parser with the options that arguments are, in any order: --augment asks for a new start symbol,
+-- and --prefix NAME for names that begin with NAME
+abbrev pub parser_with : AskedParser → List (List ℕ) → Option AskedParser
+parser_with p [] = Some p
+parser_with p (option ∷ []) = if bytes_eq option (codes "--augment") then Some (augmented p) else None
+parser_with p (option ∷ word ∷ words) = if bytes_eq option (codes "--augment") then parser_with (augmented p) (word ∷ words) else (if is_prefix p.language option word then parser_with (prefixed p word) words else None)
+
+-- the parser that the arguments after a language ask for; without options its names begin with `lr`
+abbrev pub parser_of : Language → List (List ℕ) → Option AskedParser
+parser_of language words = parser_with (record { language = language; is_augmented = false; prefix = codes "lr" }) words
 
 -- the parser in a language that the arguments ask for, if there is one, and else the tables
 abbrev pub parser_or_tables : Option Language → List ℕ → List (List ℕ) → Option Form
 parser_or_tables None verb words = option_map TablesIn (table_form_of verb words)
-parser_or_tables (Some language) verb words = parser_of language words
+parser_or_tables (Some language) verb words = option_map ParserBy (parser_of language words)
 
 -- what the arguments after the start symbol ask for
 abbrev pub form_of : List ℕ → List (List ℕ) → Option Form
@@ -173,11 +192,15 @@ language_view CWord = C
 language_view RustWord = Rust
 language_view PythonWord = Python
 
+-- a parser, from the type of the code
+abbrev pub parser_view : ParserWords → AskedParser
+parser_view p = record { language = language_view p.language; is_augmented = p.is_augmented; prefix = p.prefix.now }
+
 -- a form, from the type of the code
 abbrev pub form_view : FormWords → Form
 form_view (TablesWords form) = TablesIn (table_form_view form)
 form_view (TreeWords tokens is_graph) = TreeOf (map string_bytes tokens.now) is_graph
-form_view (ParserWords language prefix) = ParserIn (language_view language) prefix.now
+form_view (ParserIn parser) = ParserBy (parser_view parser)
 
 -- a request, from the type of the code
 abbrev pub request_view : Request → Asked

@@ -10,7 +10,7 @@ use std::alloc::Global;
 
 /// How the program is called.
 pub const USAGE: &str =
-    "usage: lrshow FILE START (check [--json] | conflicts | tree [--dot] TOKEN.. | json | dot [--around STATE [--depth N] | --conflicts] | html | c [--prefix NAME] | rust | python)\n";
+    "usage: lrshow FILE START (check [--json] | conflicts | tree [--dot] TOKEN.. | json | dot [--around STATE [--depth N] | --conflicts] | html | c [--augment] [--prefix NAME] | rust [--augment] | python [--augment])\n";
 
 // What the usage means.
 const DETAILS: &str = "       lrshow (--help | -h | --version)
@@ -29,6 +29,7 @@ FILE is a grammar file, or - for standard input. START is the start symbol.
   html                a page for a browser, in one file
   c, rust, python     a parser in this language, in one file that needs no library
   c --prefix NAME     a parser in C whose names begin with NAME, and not with lr
+  c --augment         also of a START that is on a right side; rust and python, too
 
 LALRPOP_LANE_TABLE=disabled in the environment asks for the canonical construction.
 

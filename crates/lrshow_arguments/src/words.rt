@@ -1,6 +1,6 @@
 //! The arguments of the command line.
 ghost use Rattle.std.specs.Prelude.{◌≡◌, codes, option_map, map, string_bytes};
-ghost use Rattle.lrshow_arguments.specs.Words.{check_by, check_of, check_view, choice_of, choice_view, conflict_choice, form_of, form_view, language_of, language_view, lone_form, named_parser, near, parser_of, parser_or_tables, request_of, request_view, table_form_of, table_form_view, text_for, text_view, tree_of};
+ghost use Rattle.lrshow_arguments.specs.Words.{check_by, check_of, check_view, choice_of, choice_view, conflict_choice, form_of, form_view, is_prefix, language_of, language_view, lone_form, near, parser_of, parser_or_tables, parser_view, parser_with, request_of, request_view, table_form_of, table_form_view, text_for, text_view, tree_of};
 
 use grammar_text::symbols::is_a_name;
 use program_answers::words::limit_of;
@@ -35,6 +35,16 @@ pub enum Language {
     Python,
 }
 
+/// A parser that is asked for.
+#[derive(Clone, Copy)]
+pub struct Parser<'a> {
+    pub language: Language,
+    /// Whether the grammar gets a new start symbol.
+    pub is_augmented: bool,
+    /// The names in a parser for C begin with it.
+    pub prefix: &'a str,
+}
+
 /// What is shown of a grammar.
 #[derive(Clone, Copy)]
 pub enum Form<'a> {
@@ -42,8 +52,8 @@ pub enum Form<'a> {
     Tables(TableForm),
     /// The parse of tokens, and whether it is drawn as a graph.
     Tree(&'a [String], bool),
-    /// A file that parses by its tables. The names in one for C begin with the text.
-    Parser(Language, &'a str),
+    /// A file that parses by its tables.
+    Parser(Parser<'a>),
 }
 
 /// What the arguments ask for.
@@ -145,7 +155,10 @@ fn parser_or_tables<'a>(
         verb.now (map string_bytes rest.now) }
 {
     match language {
-        Some(language) => parser_of(language, rest),
+        Some(language) => {
+            let parser = parser_of(language, rest)?;
+            Some(Form::Parser(parser))
+        }
         None => {
             let form = table_form_of(verb, rest)?;
             Some(Form::Tables(form))
@@ -170,29 +183,48 @@ fn language_of(verb: &str) -> Option<Language>
 }
 
 // The parser that the arguments after a language ask for.
-fn parser_of(language: Language, rest: &[String]) -> Option<Form<'_>>
-    ensures { option_map form_view result ≡ parser_of (language_view language)
+fn parser_of(language: Language, rest: &[String]) -> Option<Parser<'_>>
+    ensures { option_map parser_view result ≡ parser_of (language_view language)
+        (map string_bytes rest.now) }
+{
+    let parser = Parser {
+        language,
+        is_augmented: false,
+        prefix: "lr",
+    };
+    parser_with(parser, rest)
+}
+
+// A parser with the options that arguments are. A later prefix counts.
+fn parser_with<'a>(parser: Parser<'a>, rest: &'a [String]) -> Option<Parser<'a>>
+    ensures { option_map parser_view result ≡ parser_with (parser_view parser.entry)
         (map string_bytes rest.now) }
 {
     match rest {
-        [] => Some(Form::Parser(language, "lr")),
-        [option, prefix] => named_parser(language, option.as_str(), prefix.as_str()),
+        [] => Some(parser),
+        [option, rest @ ..] if option.as_str() == "--augment" => {
+            let parser = Parser {
+                is_augmented: true,
+                ..parser
+            };
+            parser_with(parser, rest)
+        }
+        [option, prefix, rest @ ..] if is_prefix(parser.language, option, prefix) => {
+            let prefix = prefix.as_str();
+            parser_with(Parser { prefix, ..parser }, rest)
+        }
         _ => None,
     }
 }
 
-// The parser whose names begin with a prefix. Only one for C has such names.
-fn named_parser<'a>(language: Language, option: &str, prefix: &'a str) -> Option<Form<'a>>
-    ensures { option_map form_view result ≡ named_parser (language_view language) option.now
-        prefix.now }
+// Whether two arguments are the option for a prefix and a name. Only a parser for C has one.
+fn is_prefix(language: Language, option: &str, prefix: &str) -> bool
+    ensures { result ≡ is_prefix (language_view language) option.now prefix.now }
 {
     let Language::C = language else {
-        return None;
+        return false;
     };
-    if option != "--prefix" || !is_a_name(prefix) {
-        return None;
-    }
-    Some(Form::Parser(language, prefix))
+    option == "--prefix" && is_a_name(prefix)
 }
 
 // The parse that the arguments after `tree` ask for.

@@ -1,26 +1,33 @@
 //! The file of a parser by tables.
 ghost use Rattle.std.specs.Prelude.{◌≡◌, IfOk, length, string_bytes};
-ghost use Rattle.lrshow_arguments.specs.Words.{language_view};
-ghost use Rattle.lrshow_parser.specs.Parsers.{IsFileOf, IsParserText, IsTableFor, method_name};
+ghost use Rattle.lrshow_arguments.specs.Words.{parser_view};
+ghost use Rattle.lrshow_parser.specs.Parsers.{AreArraysFor, IsFileOf, IsParserText, method_name};
+ghost use Rattle.parser_text.specs.Hidden.{hidden_now};
 ghost use Rattle.lrshow_parser.specs.declared.file.FileError.TheVariants.{Memory, Table, Text};
 
 use lalrpop_base::lr1_core::state::Lr1State;
 use lalrpop_base::repr::NonterminalString;
 use lalrpop_base::repr::grammar::Grammar;
+use lalrpop_base::repr::norm_error::NormError;
 use lalrpop_tables::build::Method;
-use lrshow_arguments::words::Language;
+use lrshow_arguments::words::{Language, Parser};
+use packed_tables::packed::PackedTables;
 use parse_tables::error::ParseTableError;
 use parse_tables::table::ParseTable;
 use parser_text::c::c_parser;
 use parser_text::error::ParserTextError;
+use parser_text::packing::pack_table;
 use parser_text::python::python_parser;
 use parser_text::rust::rust_parser;
 use std::alloc::Global;
 use thiserror::Error;
 
-/// Why tables have no file. `TooMany` means that there are more states than numbers of 32 bits.
+/// Why there is no file. `NewStart` has why there is no new start symbol. `TooMany` means that there
+/// are more states than numbers of 32 bits.
 #[derive(Debug, Drop, Error)]
 pub(crate) enum FileError {
+    #[error("{0}")]
+    NewStart(NormError),
     #[error("{0}")]
     Table(ParseTableError),
     #[error("{0}")]
@@ -49,46 +56,82 @@ impl From<ParserTextError> for FileError {
     }
 }
 
-/// The text of the file in a language of the states of a grammar.
+/// The text of the file of a grammar, by the states of a grammar that has one more nonterminal, which
+/// is hidden, or by its own states.
 pub(crate) fn file_of(
     alloc: Global,
     grammar: &Grammar,
     start: &NonterminalString,
+    augmented: &Grammar,
+    hidden: Option<&NonterminalString>,
     states: &[Lr1State<'_>],
     method: Method,
-    language: Language,
-    prefix: &str,
+    parser: Parser<'_>,
 ) -> Result<String, FileError>
-    ensures { IfOk result (λ text. IsFileOf (language_view language) prefix.now method grammar.now
-        start.now states.now (string_bytes text)) }
+    ensures { IfOk result (λ text. IsFileOf (parser_view parser.entry) method grammar.now start.now
+        augmented.now (hidden_now hidden.entry) states.now (string_bytes text)) }
+{
+    let packed = packed_of(alloc, grammar, augmented, hidden, states)?;
+    let text = parser_text(alloc, &packed, start, method, parser)?;
+    Ok(text)
+}
+
+// The packed arrays of states, how many states there are, and a parse table that lists the symbols
+// and productions of the file.
+#[derive(Drop)]
+struct Packed {
+    listed: ParseTable,
+    arrays: PackedTables,
+    states: u32,
+}
+
+// The packed arrays of the states of a grammar, by the numbers in the list of another one.
+fn packed_of(
+    alloc: Global,
+    grammar: &Grammar,
+    augmented: &Grammar,
+    hidden: Option<&NonterminalString>,
+    states: &[Lr1State<'_>],
+) -> Result<Packed, FileError>
+    ensures counted { IfOk result (λ packed. packed.states ≡ length states.now) }
+    ensures arrays { IfOk result (λ packed. AreArraysFor grammar.now augmented.now
+        (hidden_now hidden.entry) states.now packed.listed packed.arrays) }
 {
     let Ok(count) = u32::try_from(states.len()) else {
         return Err(FileError::TooMany);
     };
-    let table = ParseTable::new(alloc, grammar, states)?;
-    let text = parser_text(alloc, &table, count, start, method, language, prefix)?;
-    Ok(text)
+    let listed = ParseTable::new(alloc, grammar, &[])?;
+    let table = ParseTable::new(alloc, augmented, states)?;
+    let arrays = pack_table(alloc, &listed, &table, hidden, count)?;
+    Ok(Packed {
+        listed,
+        arrays,
+        states: count,
+    })
 }
 
-// The text of the file in a language of a parse table with so many states.
+// The text of the file with packed arrays.
 fn parser_text(
     alloc: Global,
-    table: &ParseTable,
-    states: u32,
+    packed: &Packed,
     start: &NonterminalString,
     method: Method,
-    language: Language,
-    prefix: &str,
+    parser: Parser<'_>,
 ) -> Result<String, ParserTextError>
-    ensures { IfOk result (λ text. IsParserText (language_view language) table.now states
-        start.now method prefix.now (string_bytes text)) }
+    ensures { IfOk result (λ text. IsParserText (parser_view parser.entry) packed.now.listed
+        packed.now.arrays packed.now.states start.now method (string_bytes text)) }
 {
+    let Packed {
+        listed,
+        arrays,
+        states,
+    } = packed;
     let start = start.text.as_str();
     let method = method_name(method);
-    match language {
-        Language::C => c_parser(alloc, table, states, start, method, prefix),
-        Language::Rust => rust_parser(alloc, table, states, start, method),
-        Language::Python => python_parser(alloc, table, states, start, method),
+    match parser.language {
+        Language::C => c_parser(alloc, listed, arrays, *states, start, method, parser.prefix),
+        Language::Rust => rust_parser(alloc, listed, arrays, *states, start, method),
+        Language::Python => python_parser(alloc, listed, arrays, *states, start, method),
     }
 }
 

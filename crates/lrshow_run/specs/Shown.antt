@@ -25,7 +25,7 @@ use Rattle.lrshow_check.specs.Built.{AreBuilt}
 use Rattle.lrshow_check.specs.Output.{IsOutput}
 use Rattle.lrshow_parser.specs.Parsers.{IsParserShown}
 use Rattle.lrshow_run.specs.Trees.{IsParseDrawn}
-use Rattle.lrshow_arguments.specs.Words.{Choice, All, Near, ToConflicts, Form, TablesIn, TreeOf, ParserIn, TableForm, Json, Graph, Page, Causes}
+use Rattle.lrshow_arguments.specs.Words.{Choice, All, Near, ToConflicts, Form, TablesIn, TreeOf, ParserBy, TableForm, Json, Graph, Page, Causes}
 
 -- ---- the graph
 -- the message if there is no state with the number
@@ -107,7 +107,7 @@ pub record AreTablesShown (method : Method) (g : Grammar) (start : NonterminalSt
 abbrev pub IsMadeShown : Method → Grammar → NonterminalString → Form → Shown → Type 0
 IsMadeShown method g start (TablesIn form) s = AreTablesShown method g start form s
 IsMadeShown method g start (TreeOf words is_graph) s = IsParseDrawn method g start words is_graph s
-IsMadeShown method g start (ParserIn language prefix) s = IsParserShown language prefix method g start s
+IsMadeShown method g start (ParserBy parser) s = IsParserShown parser method g start s
 
 -- whether a form has nothing to show without a production of the start symbol
 abbrev pub needs_start : Form → Bool
@@ -116,7 +116,7 @@ needs_start (TablesIn (Graph choice)) = false
 needs_start (TablesIn Page) = false
 needs_start (TablesIn Causes) = true
 needs_start (TreeOf words is_graph) = true
-needs_start (ParserIn language prefix) = true
+needs_start (ParserBy parser) = true
 
 -- whether a form needs a production of the start symbol, and there is none
 abbrev pub is_missing : Grammar → NonterminalString → Form → Bool

@@ -44,7 +44,7 @@ fn needs_start(form: Form<'_>) -> bool
         Form::Tables(TableForm::Causes) => true,
         Form::Tables(_) => false,
         Form::Tree(_, _) => true,
-        Form::Parser(_, _) => true,
+        Form::Parser(_) => true,
     }
 }
 
@@ -98,9 +98,7 @@ pub(crate) fn made_shown(
         Form::Tree(tokens, is_graph) => parse_shown(
             alloc, grammar, start, method, tokens, is_graph,
         ),
-        Form::Parser(language, prefix) => parser_shown(
-            alloc, grammar, start, method, language, prefix,
-        ),
+        Form::Parser(parser) => parser_shown(alloc, grammar, start, method, parser),
     }
 }
 

@@ -1,4 +1,5 @@
 pub mod Codes
+pub mod HiddenLemmas
 pub mod RowLemmas
 pub mod ArrayLemmas
 pub mod ArrayJoins

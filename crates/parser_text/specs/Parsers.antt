@@ -1,4 +1,4 @@
--- The files of a parse table.
+-- The files of a parse table and of packed arrays.
 use Rattle.std.specs.Prelude.{◌≡◌, ℕ, Bool, true, false, List, ◌++◌, codes}
 use Rattle.std.specs.Str.{str_to_ascii_uppercase}
 use Rattle.file_parts.specs.declared.parts.Array.{Array}
@@ -13,18 +13,15 @@ use Rattle.parser_in_python.specs.Parts as PartsInPython
 use Rattle.parser_in_rust.specs.declared.file.RustFile.{RustFile}
 use Rattle.parser_in_rust.specs.File as InRust
 use Rattle.parser_in_rust.specs.Parts as PartsInRust
-use Rattle.parser_text.specs.Arrays.{AreArraysOf}
 use Rattle.parser_text.specs.FileArrays.{file_arrays, parts_of}
 use Rattle.parser_text.specs.Sides.{AreLeftSides, AreLengths}
 use Rattle.parser_text.specs.Texts.{IsGrammarOf}
 use Rattle.symbol_texts.specs.Heading.{heading_text}
 use Rattle.symbol_texts.specs.declared.grammar.GrammarTexts.{GrammarTexts}
 
--- texts are those of a table, and arrays are its packed arrays and those of the sides of productions
-pub record ArePartsOf (capitals : Bool) (t : ParseTable) (states : ℕ) (grammar : GrammarTexts) (arrays : List Array) (set_bytes : ℕ) : Type 0 where
+-- texts are those of a table, and arrays are packed arrays and those of the sides of productions
+pub record ArePartsOf (capitals : Bool) (t : ParseTable) (packed : PackedTables) (grammar : GrammarTexts) (arrays : List Array) (set_bytes : ℕ) : Type 0 where
   pub texts : IsGrammarOf grammar t
-  pub packed : PackedTables
-  pub packs : AreArraysOf packed t states
   pub left : List ℕ
   pub left_sides : AreLeftSides t left
   pub lengths : List ℕ
@@ -46,32 +43,32 @@ rust_heading start method states = heading_text (codes "//") start method states
 abbrev pub python_heading : List ℕ → List ℕ → ℕ → List ℕ
 python_heading start method states = heading_text (codes "#") start method states (codes "Import it. It needs Python 3.9 and no other package.")
 
--- a text is the file for C of a table
-pub record IsCParser (t : ParseTable) (states : ℕ) (start method prefix text : List ℕ) : Type 0 where
+-- a text is the file for C with the symbols and productions of a table, and with packed arrays
+pub record IsCParser (t : ParseTable) (packed : PackedTables) (states : ℕ) (start method prefix text : List ℕ) : Type 0 where
   pub grammar : GrammarTexts
   pub arrays : List Array
   pub set_bytes : ℕ
-  pub of_table : ArePartsOf false t states grammar arrays set_bytes
+  pub of_table : ArePartsOf false t packed grammar arrays set_bytes
   pub file : CFile
   pub built : PartsInC.IsFileOf file grammar (c_heading start method states prefix) prefix arrays set_bytes
   pub is : text ≡ InC.file_text file
 
--- a text is the file for Rust of a table
-pub record IsRustParser (t : ParseTable) (states : ℕ) (start method text : List ℕ) : Type 0 where
+-- a text is such a file for Rust
+pub record IsRustParser (t : ParseTable) (packed : PackedTables) (states : ℕ) (start method text : List ℕ) : Type 0 where
   pub grammar : GrammarTexts
   pub arrays : List Array
   pub set_bytes : ℕ
-  pub of_table : ArePartsOf false t states grammar arrays set_bytes
+  pub of_table : ArePartsOf false t packed grammar arrays set_bytes
   pub file : RustFile
   pub built : PartsInRust.IsFileOf file grammar (rust_heading start method states) arrays set_bytes
   pub is : text ≡ InRust.file_text file
 
--- a text is the file for Python of a table
-pub record IsPythonParser (t : ParseTable) (states : ℕ) (start method text : List ℕ) : Type 0 where
+-- a text is such a file for Python
+pub record IsPythonParser (t : ParseTable) (packed : PackedTables) (states : ℕ) (start method text : List ℕ) : Type 0 where
   pub grammar : GrammarTexts
   pub arrays : List Array
   pub set_bytes : ℕ
-  pub of_table : ArePartsOf true t states grammar arrays set_bytes
+  pub of_table : ArePartsOf true t packed grammar arrays set_bytes
   pub file : PythonFile
   pub built : PartsInPython.IsFileOf file grammar (python_heading start method states) arrays set_bytes
   pub is : text ≡ InPython.file_text file

@@ -4,30 +4,33 @@ ghost use Rattle.parser_text.specs.Parsers.{IsCParser, c_heading, c_usage};
 
 use crate::error::ParserTextError;
 use crate::parts::{TableParts, table_parts};
+use packed_tables::packed::PackedTables;
 use parse_tables::table::ParseTable;
 use parser_in_c::file::push_file;
 use parser_in_c::parts::file_of;
 use std::alloc::{AllocError, Global};
 use symbol_texts::heading::push_heading;
 
-/// The file for C of a parse table with so many states. All its names begin with the prefix. The
+/// The file for C with the symbols and productions of a table, and with the packed arrays of so
+/// many states. All its names begin with the prefix. The
 /// comment at its top has the start symbol, and the method that made the tables.
 pub fn c_parser(
     alloc: Global,
     table: &ParseTable,
+    packed: &PackedTables,
     states: u32,
     start: &str,
     method: &str,
     prefix: &str,
 ) -> Result<String, ParserTextError>
-    ensures { IfOk result (λ text. IsCParser table.now states start.now method.now prefix.now
-        (string_bytes text)) }
+    ensures { IfOk result (λ text. IsCParser table.now packed.now states start.now
+        method.now prefix.now (string_bytes text)) }
 {
     let TableParts {
         grammar,
         arrays,
         set_bytes,
-    } = table_parts(alloc, false, table, states)?;
+    } = table_parts(alloc, false, table, packed)?;
     let heading = c_heading(alloc, start, method, states, prefix)?;
     let file = file_of(alloc, &grammar, heading, prefix, arrays, set_bytes)?;
     let mut text = String::new(alloc);

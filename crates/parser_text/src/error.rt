@@ -8,14 +8,17 @@ use std::alloc::{AllocError, AllocFailed};
 use thiserror::Error;
 
 /// Why a parse table has no arrays. `ToFirst` has a state with a shift or a goto to state 0, which
-/// no tables of a construction have. `Unlisted` has a state that reduces by a production that the
-/// table does not list. `TooLarge` means that a number has more than 32 bits.
+/// no tables of a construction have. `Unlisted` has a state that reduces by a production that is not
+/// listed. `Unknown` has a nonterminal that is listed, but is none of the tables. `TooLarge` means
+/// that a number has more than 32 bits.
 #[derive(Debug, Drop, PartialEq, Eq, Error)]
 pub enum ParserTextError {
     #[error("state {0} has a shift or a goto to state 0")]
     ToFirst(u32),
     #[error("state {0} reduces by a production that is not listed")]
     Unlisted(u32),
+    #[error("nonterminal {0} is none of the tables")]
+    Unknown(u32),
     #[error("a number has more than 32 bits")]
     TooLarge,
     #[error("{0}")]

@@ -10,6 +10,7 @@ mod arrays;
 pub mod c;
 pub mod error;
 mod goto_rows;
+mod listing;
 pub mod packing;
 mod parts;
 pub mod python;

@@ -4,16 +4,16 @@ ghost use Rattle.parser_text.specs.Parsers.{ArePartsOf};
 
 use crate::arrays::file_arrays;
 use crate::error::ParserTextError;
-use crate::packing::pack_table;
 use crate::sides::{left_sides, lengths};
 use crate::texts::grammar_of;
 use file_parts::parts::Array;
+use packed_tables::packed::PackedTables;
 use parse_tables::table::ParseTable;
 use std::alloc::Global;
 use symbol_texts::grammar::GrammarTexts;
 
-/// The symbols and the productions of a table as texts, its arrays, and how many bytes a set of
-/// terminals has.
+/// The symbols and the productions of a table as texts, arrays, and how many bytes a set of terminals
+/// has.
 #[derive(Drop)]
 pub(crate) struct TableParts {
     pub(crate) grammar: GrammarTexts,
@@ -21,22 +21,21 @@ pub(crate) struct TableParts {
     pub(crate) set_bytes: u32,
 }
 
-/// The parts of a table with so many states. The names of arrays are in capitals, or in small letters.
+/// The parts of a table and of packed arrays. The names of arrays are in capitals, or in small letters.
 pub(crate) fn table_parts(
     alloc: Global,
     capitals: bool,
     table: &ParseTable,
-    states: u32,
+    packed: &PackedTables,
 ) -> Result<TableParts, ParserTextError>
-    ensures { IfOk result (λ parts. ArePartsOf capitals table.now states parts.grammar
+    ensures { IfOk result (λ parts. ArePartsOf capitals table.now packed.now parts.grammar
         parts.arrays.items parts.set_bytes) }
 {
-    let packed = pack_table(alloc, table, states)?;
     let left = left_sides(alloc, table)?;
     let lengths = lengths(alloc, table)?;
     Ok(TableParts {
         grammar: grammar_of(alloc, table)?,
-        arrays: file_arrays(alloc, capitals, &packed, &left, &lengths)?,
+        arrays: file_arrays(alloc, capitals, packed, &left, &lengths)?,
         set_bytes: packed.set_bytes,
     })
 }

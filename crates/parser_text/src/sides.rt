@@ -2,8 +2,8 @@
 ghost use Rattle.std.specs.Prelude.{IfOk};
 ghost use Rattle.parser_text.specs.Sides.{AreLeftSides, AreLengths};
 
-use crate::action_rows::small;
 use crate::error::ParserTextError;
+use crate::listing::small;
 use parse_tables::table::ParseTable;
 use std::alloc::Global;
 

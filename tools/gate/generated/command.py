@@ -5,8 +5,9 @@ small ones, by the generator in tools/generated. The exact ones must be those th
 c`, `rust` and `python` write, byte for byte. It compiles them, without a warning, and answers the
 cases by them: the tree, or the refused token with its position and the expected tokens, or the limit.
 The texts are those of the cases. The positions and the expected tokens are those of a model, which
-runs by the data of `lrshow`. If the start symbol is on a right side, the grammar gets a new one, and
-all is that of the model. The calculators of examples/calculator are tried, too.
+runs by the data of `lrshow`. If the start symbol is on a right side, the grammar gets a new one, the
+files are those of `lrshow` with `--augment`, and the answers are those of the model. The calculators
+of examples/calculator are tried, too.
 PROGRAM is crates/lrshow/out/lrshow, which `rt ci` and `rt run` leave there. CASES is the folder
 crates/lrtab/cases. Others can be given. A language whose compiler is not on the path is left out. The
 status is 0 if all agree, there are some, and `rustfmt` and `black` leave each seventh file as it is.

@@ -94,9 +94,11 @@ class Found:
 
     def augment(self, name, cases):
         hidden, data, fault = wrapped(self.program, self.grammars, name)
-        if fault:
-            self.faults.append(f"{name}, augmented: {fault}")
-        elif data["conflicts"]:
+        if data is None or fault:
+            self.faults.append(f"{name}, augmented: {fault or 'no data'}")
+            return
+        self.faults += written.faults(self.program, self.grammars, name, data, hidden)
+        if data["conflicts"]:
             self.without["with conflicts, augmented"] += 1
         else:
             model = Model(data, hidden)

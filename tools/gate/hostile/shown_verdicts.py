@@ -14,7 +14,8 @@ from gate.shown.listings import Listings
 
 USAGE = (
     "usage: lrshow FILE START (check [--json] | conflicts | tree [--dot] TOKEN.. | json | "
-    "dot [--around STATE [--depth N] | --conflicts] | html | c [--prefix NAME] | rust | python)"
+    "dot [--around STATE [--depth N] | --conflicts] | html | c [--augment] [--prefix NAME] | "
+    "rust [--augment] | python [--augment])"
 )
 
 
@@ -37,10 +38,9 @@ def asked_of_lrshow(task, words):
         return next(((task, it, []) for it in choice_of(words)), None)
     if task == "check" and words == ["--json"]:
         return f"{task} --json", None, []
-    if task == "c" and len(words) == 2 and words[0] == "--prefix" and reading.is_name(words[1]):
-        return task, words[1], []
-    if task in parsers.WRITERS and not words:
-        return task, "lr", []
+    if task in parsers.WRITERS:
+        options = parsers.options_of(task, words, reading.is_name)
+        return None if options is None else (task, options, [])
     return (task, None, []) if task in ("check", "conflicts", "json", "html") and not words else None
 
 
@@ -90,8 +90,10 @@ def check_shown(answer, request, data, grammar):
         expect((answer.status, answer.stdout, answer.stderr) == expected, f"expected {expected}")
         return
     if request.task in parsers.WRITERS:
-        if not parsers.lists_more(grammar.marked, [left for left, _ in grammar.rules]):
-            parsers.check(answer, data, request.task, request.number)
+        if request.number.is_augmented:
+            parsers.check_augmented(answer, data)
+        elif not parsers.lists_more(grammar.marked, [left for left, _ in grammar.rules]):
+            parsers.check(answer, data, request.task, request.number.prefix)
         return
     if is_tree:
         tree.check(answer, data, [it[1:-1] for it in request.tokens], request.task == "tree --dot")

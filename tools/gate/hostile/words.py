@@ -21,7 +21,7 @@ SHOWN_VERBS = (
     "parse 1", "explain", "svg", "check 0", "check --around 0", "check --json --json", "conflicts 0", "dot --depth 1",
     "dot --depth 1 --around 0", "dot --around 0 --depth", "dot --around 0 --depth x", "dot --conflicts 0",
     "dot --around 0 --depth 1 1", "trees", "c --prefix", "c --prefix 9", "c calc", "c --small", "rust --prefix calc",
-    "python 0", "C",
+    "python 0", "C", "c --augment 0", "html --augment",
 )
 ODD_TOKENS = (
     "", "-", "--", "--help", "Eof", '"', '"a"', "a b", "\n", "\t", "é", "\u2028", "🦀", "?", "[S: ]", "]",
@@ -35,7 +35,7 @@ NOT_READABLE = (
     "none", ".", "..", "g/", "g/g", "", "\n", "é", "none/g", "n" * 300, "n" * 5_000, "/", "'g'", "g ", "--", "-",
 )
 # Words for parsers, which are all right.
-PARSERS = ("c", "rust", "python", "c --prefix calc", "c --prefix _9")
+PARSERS = ("c", "rust", "python", "c --prefix calc", "c --prefix _9", "rust --augment", "c --augment --prefix calc")
 SHOWN_READABLE = (*READABLE, "-")
 
 

@@ -292,6 +292,30 @@ class Files(unittest.TestCase):
                 self.assertIsNotNone(self.fault_of(wrong, DIFFERENCES, language, prefix))
         self.assertIsNotNone(self.fault_of(Answer(0, parsers.text_of(packed, "c", "canonical", "lr"), b"")))
 
+    def test_hidden(self):
+        for hidden in (None, "S"):
+            text = parsers.text_of(Packed(Tables(DIFFERENCES, hidden), False), "c", "lane", "lr")
+            parsers.check(Answer(0, text, b""), DIFFERENCES, "c", "lr", ["lane"], hidden)
+            with self.assertRaises(WrongData):
+                parsers.check(Answer(0, text, b""), DIFFERENCES, "c", "lr", ["lane"], None if hidden else "S")
+
+    def test_augmented(self):
+        head = b"// A parser.\n//\n// Start symbol: E. Method: lane.\n"
+        old = {**DIFFERENCES, "start": "E"}
+        for answer, is_right in (
+            (Answer(0, head, b""), True), (Answer(0, head.replace(b"E", b"S"), b""), False),
+            (Answer(1, b"", b"conflicts: 1; add `__E = E`, and see\n"), True), (Answer(2, b"", b"no file: many\n"), True),
+            (Answer(2, b"", b"conflicts: 1; add `__E = E`, and see\n"), False), (Answer(1, head, b""), False),
+        ):
+            with self.subTest(answer):
+                try:
+                    parsers.check_augmented(answer, old)
+                    self.assertTrue(is_right)
+                except WrongData:
+                    self.assertFalse(is_right)
+        with self.assertRaises(WrongData):
+            parsers.check_augmented(Answer(2, b"", b"no file: many\n"), DIFFERENCES)
+
     def test_reasons(self):
         data = {**DIFFERENCES, "conflicts": [1, 2]}
         for status, reason, is_right in (

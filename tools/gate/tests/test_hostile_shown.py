@@ -5,7 +5,7 @@ import unittest
 from gate.hostile import shown_verdicts
 from gate.hostile.shown_verdicts import LRSHOW, asked_of_lrshow
 from gate.hostile.verdicts import Answer
-from gate.shown import graph
+from gate.shown import graph, parsers
 from gate.tests.test_shown import (
     ACROSS, DATA, GRAPH, PAGE, SPOILT_DATA, SPOILT_GRAPHS, SPOILT_PAGES, TWICE, TWICE_DRAWN, page_of,
 )
@@ -138,10 +138,14 @@ ASKED = (
     ("dot --conflicts", ("dot", graph.CONFLICTS, [])), ("dot --around 007", ("dot", 7, [])),
     ("dot --around 7 --depth 01", ("dot", 7, [])), ("dot --around 7 --depth 0", ("dot", graph.Near(7, 0), [])),
     ("dot --around 7 --depth 12", ("dot", graph.Near(7, 12), [])),
-    ("c", ("c", "lr", [])), ("rust", ("rust", "lr", [])), ("python", ("python", "lr", [])),
-    ("c --prefix calc", ("c", "calc", [])),
+    ("c", ("c", parsers.Options(), [])), ("rust", ("rust", parsers.Options(), [])),
+    ("python", ("python", parsers.Options(), [])), ("c --prefix calc", ("c", parsers.Options("calc"), [])),
+    ("rust --augment", ("rust", parsers.Options("lr", True), [])),
+    ("c --prefix a --augment", ("c", parsers.Options("a", True), [])),
+    ("c --augment --prefix a --prefix b", ("c", parsers.Options("b", True), [])),
     *((words, None) for words in (
         "c calc", "c --prefix", "c --prefix 9", "c --prefix a b", "rust --prefix calc", "python x", "C",
+        "c --augment x", "c --augment --prefix", "rust --augment --prefix a", "json --augment",
         "svg", "json x", "html x", "conflicts x", "check x", "check --json x", "check --json --json", "dot x",
         "dot --around", "dot --around x", "dot --around -1", "dot --around 18446744073709551616", "dot --around 7 8",
         "dot --around 7 --depth", "dot --around 7 --depth x", "dot --around 7 --depth 1 2", "dot --around 7 --around 7",

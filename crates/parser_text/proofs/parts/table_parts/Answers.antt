@@ -4,14 +4,12 @@ use Rattle.parser_text.proofs.parts.table_parts.Goals as goal
 
 pub returns : goal.returns
 returns c =
-    let packed = c.in_ok-packed.packed in
+    let packed = c.args.packed.now in
     let capitals = c.args.capitals in
     let left = c.in_ok-left.left.items in
     let lengths = c.in_ok-lengths.lengths.items in
     record {
       texts = c.in_ok-grammar_of.ensures;
-      packed = packed;
-      packs = c.in_ok-packed.ensures;
       left = left;
       left_sides = c.in_ok-left.ensures;
       lengths = lengths;

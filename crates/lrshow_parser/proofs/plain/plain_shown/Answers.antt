@@ -1,13 +1,13 @@
-use Rattle.std.proofs.Common.{[], inl, inr, refl, sym, subst}
+use Rattle.std.proofs.Common.{[], inl, inr, None, refl, sym, subst}
 use Rattle.std.proofs.lemmas.Result.{IfOk-weaker}
 use Rattle.lalrpop_base.specs.Words.{IsOnNoRightSide, productions}
 use Rattle.lalrpop_construction.specs.declared.options.Options.{Options}
 use Rattle.lalrpop_grammar.specs.declared.repr.NonterminalString.{NonterminalString}
 use Rattle.lalrpop_tables.specs.Words.{AreTablesOf}
-use Rattle.lrshow_arguments.specs.Words.{language_view}
+use Rattle.lrshow_arguments.specs.Words.{parser_view}
 use Rattle.lrshow_check.specs.Output.{IsOutput}
 use Rattle.lrshow_parser.specs.Parsers.{IsFileOrReason, conflicts_remark, right_side_remark}
-use Rattle.lrshow_parser.proofs.shown.parser_shown.Goals as goal
+use Rattle.lrshow_parser.proofs.plain.plain_shown.Goals as goal
 
 pub returns-then-not-is_on_no_right_side : goal.returns-then-not-is_on_no_right_side
 returns-then-not-is_on_no_right_side c =
@@ -25,12 +25,11 @@ returns-in-Tables c =
       unused = subst (λ (a : NonterminalString). IsOnNoRightSide (productions g) a) c.in_ok-name.ensures (c.if-not-is_on_no_right_side.ensures.0 refl);
       states = c.deref.result.now;
       tables = subst (λ (o : Options). AreTablesOf ⊥ c.args.method o.max_copies g c.args.start c.deref.result.now) c.default.ensures tables;
-      shown = subst (λ (a : NonterminalString). IsFileOrReason (language_view c.args.language) c.args.prefix.now c.args.method g a c.deref.result.now s) c.in_ok-name.ensures out;
+      shown = subst (λ (a : NonterminalString). IsFileOrReason (parser_view c.args.parser) c.args.method g a g None c.deref.result.now s) c.in_ok-name.ensures out;
     })) c.file_shown.ensures
 
 pub returns : goal.returns
 returns c =
-    let g = c.args.grammar.now in
     let counted = rw c.in-Conflicts.is at c.in_ok-states.ensures.answer in
     IfOk-weaker c.conflicts_remarked.result _ _ (λ s out. inr (inl (record {
       count = c.in-Conflicts.count;
