@@ -195,26 +195,30 @@ fn parser_of(language: Language, rest: &[String]) -> Option<Parser<'_>>
     parser_with(parser, rest)
 }
 
-// A parser with the options that arguments are. A later prefix counts.
+// A parser with the options that arguments are. Of two prefixes the later one counts.
 fn parser_with<'a>(parser: Parser<'a>, rest: &'a [String]) -> Option<Parser<'a>>
     ensures { option_map parser_view result ≡ parser_with (parser_view parser.entry)
         (map string_bytes rest.now) }
 {
-    match rest {
-        [] => Some(parser),
-        [option, rest @ ..] if option.as_str() == "--augment" => {
-            let parser = Parser {
-                is_augmented: true,
-                ..parser
-            };
-            parser_with(parser, rest)
-        }
-        [option, prefix, rest @ ..] if is_prefix(parser.language, option, prefix) => {
-            let prefix = prefix.as_str();
-            parser_with(Parser { prefix, ..parser }, rest)
-        }
-        _ => None,
+    let [option, rest @ ..] = rest else {
+        return Some(parser);
+    };
+    let option = option.as_str();
+    if option == "--augment" {
+        let parser = Parser {
+            is_augmented: true,
+            ..parser
+        };
+        return parser_with(parser, rest);
     }
+    let [prefix, rest @ ..] = rest else {
+        return None;
+    };
+    let prefix = prefix.as_str();
+    if !is_prefix(parser.language, option, prefix) {
+        return None;
+    }
+    parser_with(Parser { prefix, ..parser }, rest)
 }
 
 // Whether two arguments are the option for a prefix and a name. Only a parser for C has one.
