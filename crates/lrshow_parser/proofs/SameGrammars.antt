@@ -1,16 +1,24 @@
--- A copy of a well-formed grammar is well-formed.
-use Rattle.std.proofs.Common.{◌≡◌, ℕ, ◌<◌, List, length, slice_get, Some, sym, ◌∙◌, ap, subst, arith}
+-- A copy of a well-formed grammar is well-formed, and why a new start symbol is refused.
+use Rattle.std.proofs.Common.{◌≡◌, ℕ, suc, ◌<◌, ◌^◌, List, length, slice_get, Some, refl, sym, ◌∙◌, ap, subst, arith}
 use Rattle.std.specs.List.{AllZip}
 use Rattle.std.specs.Prelude.{vec_len}
-use Rattle.lalrpop_base.specs.Words.{IsWellFormed}
+use Rattle.lalrpop_base.specs.Words.{IsRefusedStart, IsWellFormed}
 use Rattle.lalrpop_collections.proofs.theory.lists.Zipped.{zip_old}
 use Rattle.lalrpop_grammar.specs.declared.repr.NonterminalString.{NonterminalString}
 use Rattle.lalrpop_grammar.specs.declared.repr.Production.{Production}
 use Rattle.lalrpop_grammar.specs.declared.repr.TerminalString.{TerminalString}
 use Rattle.lalrpop_grammar.specs.declared.repr.grammar.Grammar.{Grammar}
 use Rattle.lalrpop_grammar.specs.declared.repr.grammar.NonterminalData.{NonterminalData}
+use Rattle.lalrpop_grammar.specs.declared.repr.norm_error.NormError.{NormError}
+use Rattle.lalrpop_grammar.specs.declared.repr.norm_error.NormError.TheVariants.{Cycle, TooManyActions, Memory}
 use Rattle.lalrpop_grammar.specs.grammars.SameGrammars.{IsSameEntry, IsSameGrammar}
 use Rattle.lalrpop_grammar.specs.grammars.WellFormed.{IsWellFormedEntry}
+
+-- an error that is no allocation failure is that of too many actions
+pub many_actions : (g : Grammar) (e : NormError) → (e ≡ Memory → ⊥) → IsRefusedStart g e → 2 ^ 32 < suc (vec_len g.action_fn_defns)
+many_actions g (Cycle span name) other refused = absurd refused
+many_actions g TooManyActions other refused = refused
+many_actions g Memory other refused = absurd (other refl)
 
 -- a name with its entry
 Entry : Type 0

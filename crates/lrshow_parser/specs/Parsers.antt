@@ -27,13 +27,14 @@ method_name Lane = codes "lane"
 
 -- a text is the file in a language with the symbols and productions of a parse table, and with packed
 -- arrays of so many states
+abbrev pub IsTextIn : Language → ParseTable → PackedTables → ℕ → NonterminalString → Method → (prefix text : List ℕ) → Type 0
+IsTextIn C t arrays states start method prefix text = IsCParser t arrays states start.text (method_name method) prefix text
+IsTextIn Rust t arrays states start method prefix text = IsRustParser t arrays states start.text (method_name method) text
+IsTextIn Python t arrays states start method prefix text = IsPythonParser t arrays states start.text (method_name method) text
+
+-- a text is the file of a parser that is asked for
 abbrev pub IsParserText : AskedParser → ParseTable → PackedTables → ℕ → NonterminalString → Method → (text : List ℕ) → Type 0
-IsParserText p t arrays states start method text = IsTextIn p.language
-  where
-    IsTextIn : Language → Type 0
-    IsTextIn C = IsCParser t arrays states start.text (method_name method) p.prefix text
-    IsTextIn Rust = IsRustParser t arrays states start.text (method_name method) text
-    IsTextIn Python = IsPythonParser t arrays states start.text (method_name method) text
+IsParserText p t arrays states start method text = IsTextIn p.language t arrays states start method p.prefix text
 
 -- a parse table lists the symbols and productions of a grammar
 pub record IsListOf (g : Grammar) (t : ParseTable) : Type 0 where

@@ -1,6 +1,7 @@
 //! What is shown if a parser with a new start symbol is asked for.
 ghost use Rattle.std.specs.Prelude.{◌≡◌, ◌⊎◌, [], IfOk};
-ghost use Rattle.lalrpop_base.specs.Words.{IsWellFormed};
+ghost use Rattle.lalrpop_base.specs.Words.{IsRefusedStart, IsWellFormed};
+ghost use Rattle.lalrpop_grammar.specs.declared.repr.grammar.Grammar.{Grammar};
 ghost use Rattle.lrshow_arguments.specs.Words.{parser_view};
 ghost use Rattle.lrshow_check.specs.Output.{IsOutput};
 ghost use Rattle.lrshow_parser.specs.Parsers.{AreAugmentedRemarked, IsFileOfAugmented, IsNewStartRefused, IsOfAugmented, augmented_remark};
@@ -35,8 +36,17 @@ pub(crate) fn augmented_shown(
         Ok((augmented, new_start)) => {
             tables_shown(alloc, grammar, &name, &augmented, new_start, method, parser)
         }
-        Err(NormError::Memory) => Err(OutOfMemory),
-        Err(error) => no_file(alloc, &FileError::NewStart(error)),
+        Err(error) => not_augmented(alloc, error),
+    }
+}
+
+// What is shown if there is no new start symbol.
+fn not_augmented(alloc: Global, error: NormError) -> Result<Shown, OutOfMemory>
+    ensures { (g : Grammar) → IsRefusedStart g error → IfOk result (IsNewStartRefused g) }
+{
+    match error {
+        NormError::Memory => Err(OutOfMemory),
+        _ => no_file(alloc, &FileError::TooManyActions),
     }
 }
 

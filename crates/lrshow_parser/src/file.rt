@@ -8,7 +8,6 @@ ghost use Rattle.lrshow_parser.specs.declared.file.FileError.TheVariants.{Memory
 use lalrpop_base::lr1_core::state::Lr1State;
 use lalrpop_base::repr::NonterminalString;
 use lalrpop_base::repr::grammar::Grammar;
-use lalrpop_base::repr::norm_error::NormError;
 use lalrpop_tables::build::Method;
 use lrshow_arguments::words::{Language, Parser};
 use packed_tables::packed::PackedTables;
@@ -22,12 +21,12 @@ use parser_text::rust::rust_parser;
 use std::alloc::Global;
 use thiserror::Error;
 
-/// Why there is no file. `NewStart` has why there is no new start symbol. `TooMany` means that there
-/// are more states than numbers of 32 bits.
+/// Why there is no file. `TooManyActions` means that a new start symbol has no action. `TooMany` means
+/// that there are more states than numbers of 32 bits.
 #[derive(Debug, Drop, Error)]
 pub(crate) enum FileError {
-    #[error("{0}")]
-    NewStart(NormError),
+    #[error("too many actions")]
+    TooManyActions,
     #[error("{0}")]
     Table(ParseTableError),
     #[error("{0}")]
@@ -121,17 +120,13 @@ fn parser_text(
     ensures { IfOk result (λ text. IsParserText (parser_view parser.entry) packed.now.listed
         packed.now.arrays packed.now.states start.now method (string_bytes text)) }
 {
-    let Packed {
-        listed,
-        arrays,
-        states,
-    } = packed;
+    let (listed, arrays, states) = (&packed.listed, &packed.arrays, packed.states);
     let start = start.text.as_str();
     let method = method_name(method);
     match parser.language {
-        Language::C => c_parser(alloc, listed, arrays, *states, start, method, parser.prefix),
-        Language::Rust => rust_parser(alloc, listed, arrays, *states, start, method),
-        Language::Python => python_parser(alloc, listed, arrays, *states, start, method),
+        Language::C => c_parser(alloc, listed, arrays, states, start, method, parser.prefix),
+        Language::Rust => rust_parser(alloc, listed, arrays, states, start, method),
+        Language::Python => python_parser(alloc, listed, arrays, states, start, method),
     }
 }
 
