@@ -196,6 +196,7 @@ fn parser_of(language: Language, rest: &[String]) -> Option<Parser<'_>>
 }
 
 // A parser with the options that arguments are. Of two prefixes the later one counts.
+#[tactic(auto, using(crate::proofs::ParserWords::augment_first, crate::proofs::ParserWords::none_first, crate::proofs::ParserWords::prefix_first, crate::proofs::ParserWords::no_prefix))]
 fn parser_with<'a>(parser: Parser<'a>, rest: &'a [String]) -> Option<Parser<'a>>
     ensures { option_map parser_view result ≡ parser_with (parser_view parser.entry)
         (map string_bytes rest.now) }
