@@ -1,5 +1,5 @@
 //! What is shown if a parser with a new start symbol is asked for.
-ghost use Rattle.std.specs.Prelude.{◌≡◌, ◌⊎◌, [], IfOk};
+ghost use Rattle.std.specs.Prelude.{◌⊎◌, [], IfOk};
 ghost use Rattle.lalrpop_base.specs.Words.{IsRefusedStart, IsWellFormed};
 ghost use Rattle.lalrpop_grammar.specs.declared.repr.grammar.Grammar.{Grammar};
 ghost use Rattle.lrshow_arguments.specs.Words.{parser_view};
@@ -72,7 +72,14 @@ fn tables_shown(
     let hidden = new_start.clone(alloc)?;
     match build_states_or_count(alloc, augmented, new_start, &options)? {
         TablesOrCount::Tables(states) => file_shown(
-            alloc, grammar, start, augmented, Some(&hidden), &states, method, parser,
+            alloc,
+            grammar,
+            start,
+            augmented,
+            Some(&hidden),
+            &states,
+            method,
+            parser,
         ),
         TablesOrCount::Conflicts(count) => conflicts_remarked(alloc, start, &hidden, count),
     }
