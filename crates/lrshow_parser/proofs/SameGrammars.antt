@@ -8,7 +8,7 @@ use Rattle.lalrpop_grammar.specs.declared.repr.NonterminalString.{NonterminalStr
 use Rattle.lalrpop_grammar.specs.declared.repr.Production.{Production}
 use Rattle.lalrpop_grammar.specs.declared.repr.TerminalString.{TerminalString}
 use Rattle.lalrpop_grammar.specs.declared.repr.grammar.Grammar.{Grammar}
-use Rattle.lalrpop_grammar.specs.declared.repr.grammar.NonterminalData.{NonterminalData}
+use Rattle.lalrpop_grammar.proofs.theory.grammars.NewStart.{Entry}
 use Rattle.lalrpop_grammar.specs.declared.repr.norm_error.NormError.{NormError}
 use Rattle.lalrpop_grammar.specs.declared.repr.norm_error.NormError.TheVariants.{Cycle, TooManyActions, Memory}
 use Rattle.lalrpop_grammar.specs.grammars.SameGrammars.{IsSameEntry, IsSameGrammar}
@@ -19,10 +19,6 @@ pub many_actions : (g : Grammar) (e : NormError) → (e ≡ Memory → ⊥) → 
 many_actions g (Cycle span name) other refused = absurd refused
 many_actions g TooManyActions other refused = refused
 many_actions g Memory other refused = absurd (other refl)
-
--- a name with its entry
-Entry : Type 0
-Entry = NonterminalString × NonterminalData
 
 -- the same name, and the same entry
 abbrev IsSame : Entry → Entry → Type 0
