@@ -19,6 +19,7 @@ USAGE = "usage: START "
 SHOWN = (
     "json", "check", "check\0--json", "conflicts", "dot", "dot\0--conflicts", "dot\0--around\0" "1", "dot\0--around\0" "9",
     "dot\0--around\0" "1\0--depth\0" "2", "html", "tree", "tree\0x", "tree\0--dot\0a", "c\0--prefix\0calc", "rust", "python",
+    "c\0--augment",
 )
 
 

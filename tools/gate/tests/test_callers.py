@@ -187,7 +187,7 @@ class Refused(unittest.TestCase):
 
     def test_right_library(self):
         said, faults = self.refused(0)
-        self.assertRegex(said, r"^240 questions, (\d+) refused allocations, \1 of them reported$")
+        self.assertRegex(said, r"^250 questions, (\d+) refused allocations, \1 of them reported$")
         self.assertEqual(faults, [])
 
     def test_faults(self):
@@ -199,7 +199,7 @@ class Refused(unittest.TestCase):
                 self.assertIn(text, faults[1])
 
     def test_faults_of_other_calls(self):
-        for fault, words, number in ((15, "b'=tables',", 40), (16, "b'=check',", 42)):
+        for fault, words, number in ((15, "b'=tables',", 42), (16, "b'=check',", 44)):
             with self.subTest(fault):
                 _, faults = self.refused(fault)
                 self.assertIn(f"words {words}", faults[0])
