@@ -17,10 +17,7 @@ use test_fixtures::texts::grammar;
 const CALCULATOR: &str = "S = E\nE = E \"+\" E\nE = E \"*\" E\nE = \"NUM\"";
 
 // The conflicts of the canonical states for the start symbol `S`.
-fn conflicts<'g>(
-    alloc: Global,
-    grammar: &'g Grammar,
-) -> Result<Lr1TableConstructionError<'g>, Fail>
+fn conflicts<'g>(alloc: Global, grammar: &'g Grammar) -> Result<Lr1TableConstructionError<'g>, Fail>
     requires { IsWellFormed grammar.now }
 {
     let lr = Lr::new(alloc, grammar, name_of(alloc, "S")?, Nil)?;
