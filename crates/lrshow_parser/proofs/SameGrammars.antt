@@ -1,6 +1,5 @@
 -- A copy of a well-formed grammar is well-formed, and why a new start symbol is refused.
-use Rattle.std.proofs.Common.{◌≡◌, ℕ, suc, ◌<◌, ◌^◌, List, length, slice_get, Some, refl, sym, ◌∙◌, ap, subst, arith}
-use Rattle.std.specs.List.{AllZip}
+use Rattle.std.proofs.Common.{◌≡◌, ℕ, suc, ◌<◌, ◌^◌, List, length, refl, sym, ap, subst, arith}
 use Rattle.std.specs.Prelude.{vec_len}
 use Rattle.lalrpop_base.specs.Words.{IsRefusedStart, IsWellFormed}
 use Rattle.lalrpop_collections.proofs.theory.lists.Zipped.{zip_old}

@@ -7,7 +7,7 @@ use Rattle.lrshow_parser.proofs.SameGrammars.{copy_is_well_formed, same_actions}
 use Rattle.lrshow_parser.proofs.augmented.augmented_shown.Goals as goal
 
 pub augment-requires : goal.augment-requires
-augment-requires c = copy_is_well_formed c.args.grammar.now c.in_ok-copy.copy c.in_ok-copy.ensures c.requires
+augment-requires c = copy_is_well_formed c.args.grammar.now c.in_ok-copy.copy c.in_ok-copy.ensures.copy c.requires
 
 pub returns-in-Ok : goal.returns-in-Ok
 returns-in-Ok c =
@@ -17,13 +17,13 @@ returns-in-Ok c =
     IfOk-weaker c.tables_shown.result _ _ (λ s out. inl (record {
       h = h;
       f = f;
-      augmented = record { copy = c.in_ok-copy.copy; same = c.in_ok-copy.ensures; added = c.in-Ok.ensures.added };
+      augmented = record { copy = c.in_ok-copy.copy; same = c.in_ok-copy.ensures.copy; added = c.in-Ok.ensures.added };
       shown = subst (λ (a : NonterminalString). IsFileOfAugmented (parser_view c.args.parser) c.args.method g a h f s ⊎ AreAugmentedRemarked a h f s) c.in_ok-name.ensures out;
     })) c.tables_shown.ensures
 
-pub returns-in-Err : goal.returns-in-Err
-returns-in-Err c =
+pub returns : goal.returns
+returns c =
     IfOk-weaker c.not_augmented.result _ _ (λ s out. inr (record {
-      refused = subst (λ (n : ℕ). 2 ^ 32 < suc n) (same_actions c.args.grammar.now c.in_ok-copy.copy c.in_ok-copy.ensures) out.refused;
+      refused = subst (λ (n : ℕ). 2 ^ 32 < suc n) (same_actions c.args.grammar.now c.in_ok-copy.copy c.in_ok-copy.ensures.copy) out.refused;
       shown = out.shown;
     })) (c.not_augmented.ensures c.in_ok-copy.copy c.in-Err.ensures.refused)
