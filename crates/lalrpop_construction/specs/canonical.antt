@@ -1,2 +1,3 @@
 -- The results of the canonical construction.
 pub mod CanonicalAnswers
+pub mod ConflictFree

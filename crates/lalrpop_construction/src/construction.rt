@@ -1,6 +1,7 @@
 //! The construction of LR(0) and canonical LR(1) states, for any lookahead.
 pub mod canonical;
 pub mod closure;
+mod conflict_free;
 mod epsilon_moves;
 pub mod kernel;
 pub mod lookahead_build;

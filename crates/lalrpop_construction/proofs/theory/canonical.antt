@@ -3,6 +3,7 @@ pub mod Canonical
 pub mod CanonicalAnswers
 pub mod CanonicalConflicts
 pub mod CanonicalContents
+pub mod ConflictFree
 pub mod Deciding
 pub mod Lr0States
 pub mod OrderedCanonical
