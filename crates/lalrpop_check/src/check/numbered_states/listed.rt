@@ -1,8 +1,8 @@
 //! States by number, each of which lists the closure of its kernel.
-ghost use Rattle.std.specs.Prelude.{◌≡◌, ◌<◌, ℕ, length, map, replicate, Contains, IfOk, IfSome, None, Some};
+ghost use Rattle.std.specs.Prelude.{◌≡◌, ◌<◌, ℕ, length, map, replicate, Contains, IfOk, IfSome, None, OnOk, Some};
 ghost use Rattle.lalrpop_base.specs.Words.{AllDiffer, AreItemsBy, Rules, AreNumbered, AreNumbers, NumbersAscend, items_by};
 ghost use Rattle.lalrpop_check.specs.check.ExpectedKernels.{IsKernelOf, no_tokens};
-ghost use Rattle.lalrpop_check.specs.check.ByNumber.{AreListedByNumber, IsListedOver, ListsClosure};
+ghost use Rattle.lalrpop_check.specs.check.ByNumber.{AreListedAtPlaces, AreListedByNumber, IsListedOver, ListsClosure};
 
 use super::kernels::Kernels;
 use super::transitions::{are_items, are_reductions, take_edges};
@@ -163,6 +163,42 @@ fn all_listed(
     Ok(Some(states))
 }
 
+// Lists each state at its place, in the order in which they are found. Returns whether each of them
+// is reached, and is as its kernel says.
+fn list_states<'grammar>(
+    alloc: Global,
+    lr: &Lr<'grammar, Nil>,
+    numbers: &Numbers<'grammar>,
+    states: &[Lr1State<'grammar>],
+    start: &[Numbered<Nil>],
+    kernels: &mut Kernels,
+    list: &mut Vec<Option<NumberedState>>,
+) -> Result<bool, OutOfMemory>
+    requires numbers { AreNumbers lr.now.construction.rules numbers.now }
+    requires start { IsKernelOf lr.now.construction numbers.now 0 start.now }
+    requires list { AreListedAtPlaces lr.now.construction.rules lr.now.construction.start
+        numbers.now states.now list.old.items }
+    ensures { OnOk result (AreListedAtPlaces lr.now.construction.rules
+        lr.now.construction.start numbers.now states.now list.new.items) }
+{
+    let mut work = Workspace::new(alloc);
+    for count in 0..states.len() {
+        let Some(place) = kernels.found(count, states.len()) else {
+            return Ok(false);
+        };
+        let state = &states[place];
+        let Some(kernel) = kernel_of(lr, numbers, start, kernels, place) else {
+            return Ok(false);
+        };
+        let Some(new) = listed_state(alloc, lr, numbers, kernel, &mut work, state)? else {
+            return Ok(false);
+        };
+        kernels.add_moves(numbers, count + 1, &new)?;
+        list[place] = Some(new);
+    }
+    Ok(true)
+}
+
 /// The states by number. Each must be reached from the first, list the closure of its kernel, lead
 /// by the symbols after its dots, and reduce its finished items. Else the result is `None`. A state
 /// is listed after one that leads to it, whatever their numbers are.
@@ -180,21 +216,18 @@ pub(crate) fn listed_by_number<'grammar>(
     let _names = grammar.nonterminals.len();
     let start = lr.start_kernel(alloc, numbers)?;
     let mut kernels = Kernels::new(alloc, states.len())?;
-    let mut work = Workspace::new(alloc);
     let mut list = no_states(alloc, states.len())?;
-    for count in 0..states.len() {
-        let Some(place) = kernels.found(count, states.len()) else {
-            return Ok(None);
-        };
-        let state = &states[place];
-        let Some(kernel) = kernel_of(lr, numbers, start.as_slice(), &kernels, place) else {
-            return Ok(None);
-        };
-        let Some(new) = listed_state(alloc, lr, numbers, kernel, &mut work, state)? else {
-            return Ok(None);
-        };
-        kernels.add_moves(numbers, count + 1, &new)?;
-        list[place] = Some(new);
+    let is_whole = list_states(
+        alloc,
+        lr,
+        numbers,
+        states,
+        start.as_slice(),
+        &mut kernels,
+        &mut list,
+    )?;
+    if !is_whole {
+        return Ok(None);
     }
     all_listed(alloc, list)
 }

@@ -6,12 +6,12 @@ use Rattle.canonical_by_number.specs.Closures.{AreFirsts}
 use Rattle.canonical_by_number.specs.Conflicts.{conflict_total}
 use Rattle.canonical_by_number.specs.Kernels.{AreKernelsIn}
 use Rattle.canonical_by_number.specs.States.{AreMadeIn}
-use Rattle.canonical_by_number.proofs.counting.count_conflicts.Given as goal
+use Rattle.canonical_by_number.proofs.counting.count_all.Given as goal
 
 -- states were made so far, and their conflicts were counted
 abbrev pub invariant-states : goal.invariant-states
 invariant-states l = record {
-  firsts : AreFirsts l.numbers l.sets l.first_numbers;
+  firsts : AreFirsts l.numbers l.sets l.firsts;
   kernels : AreKernelsIn l.numbers l.sets l.kernels.list;
   made : (made : List (State Bits)) × AreMadeIn l.lr.construction l.numbers l.sets l.kernels made × (l.count ≡ conflict_total l.lr.construction.rules.terminals made);
 }
