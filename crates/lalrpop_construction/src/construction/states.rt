@@ -1,5 +1,5 @@
 //! The loops that make the states of a grammar, kernel after kernel.
-ghost use Rattle.std.specs.Prelude.{◌↔◌, [], IsTrue, IfOk};
+ghost use Rattle.std.specs.Prelude.{◌≡◌, ◌↔◌, [], IsTrue, IfOk, OnOk};
 ghost use Rattle.lalrpop_construction.specs.construction.EarlyStop.{AreEnough, AreMadeFor};
 ghost use Rattle.lalrpop_base.specs.Words.{AreNumbers};
 ghost use Rattle.lalrpop_construction.specs.construction.Results.{AreStatesFor};
@@ -47,6 +47,33 @@ pub(super) fn first_kernels<'grammar, L: LookaheadBuild>(
     Ok(kernels)
 }
 
+// Makes the states and lists their conflicts, until enough are listed. None is made yet.
+fn build_until_enough<'grammar, L: LookaheadBuild>(
+    alloc: Global,
+    lr: &Lr<'grammar, L>,
+    numbers: &Numbers<'grammar>,
+    kernels: &mut NumberedKernels<L>,
+    states: &mut Vec<State<'grammar, L>>,
+    conflicts: &mut Vec<Conflict<'grammar, L>>,
+) -> Result<(), OutOfMemory>
+    requires numbers { AreNumbers lr.now.construction.rules numbers.now }
+    requires kernels { AreMadeSoFar L.meaning L.begins L.passes lr.now.construction
+        numbers.now.items.items kernels.old [] }
+    requires states { states.old.items ≡ [] }
+    requires conflicts { conflicts.old.items ≡ [] }
+    ensures { OnOk result (AreMadeFor L.meaning L.begins L.passes L.lists_conflicts lr.now
+        states.new.items conflicts.new.items) }
+{
+    let mut work = Workspace::new(alloc);
+    while add_state(alloc, lr, numbers, kernels, states, &mut work)? {
+        push_conflicts(alloc, lr, &states[states.len() - 1], conflicts)?;
+        if are_enough(lr.stop_after(), conflicts.len()) {
+            return Ok(());
+        }
+    }
+    Ok(())
+}
+
 /// The states and their conflicts. The construction ends early if it has listed enough conflicts.
 /// States are numbered in the order in which their kernels first appear. `OutOfMemory` if an
 /// allocation fails.
@@ -59,16 +86,43 @@ pub fn build_states<'grammar, L: LookaheadBuild>(
 {
     let numbers = lr.numbers();
     let mut kernels = first_kernels(alloc, lr, numbers)?;
-    let mut work = Workspace::new(alloc);
     let mut states = Vec::new(alloc);
     let mut conflicts = Vec::new(alloc);
-    while add_state(alloc, lr, numbers, &mut kernels, &mut states, &mut work)? {
-        push_conflicts(alloc, lr, &states[states.len() - 1], &mut conflicts)?;
-        if are_enough(lr.stop_after(), conflicts.len()) {
-            return Ok((states, conflicts));
-        }
-    }
+    build_until_enough(
+        alloc,
+        lr,
+        numbers,
+        &mut kernels,
+        &mut states,
+        &mut conflicts,
+    )?;
     Ok((states, conflicts))
+}
+
+// Makes all states, and the same states by numbers. None is made yet.
+fn number_all<'grammar, L: LookaheadBuild>(
+    alloc: Global,
+    lr: &Lr<'grammar, L>,
+    numbers: &Numbers<'grammar>,
+    kernels: &mut NumberedKernels<L>,
+    states: &mut Vec<State<'grammar, L>>,
+    list: &mut Vec<NumberedState>,
+) -> Result<(), OutOfMemory>
+    requires numbers { AreNumbers lr.now.construction.rules numbers.now }
+    requires kernels { AreMadeSoFar L.meaning L.begins L.passes lr.now.construction
+        numbers.now.items.items kernels.old [] }
+    requires states { states.old.items ≡ [] }
+    requires list { list.old.items ≡ [] }
+    ensures states { OnOk result (AreStatesFor L.meaning L.begins L.passes
+        L.lists_conflicts lr.now.construction states.new.items) }
+    ensures numbered { OnOk result
+        (AreNumberedAs numbers.now states.new.items list.new.items) }
+{
+    let mut work = Workspace::new(alloc);
+    while add_state(alloc, lr, numbers, kernels, states, &mut work)? {
+        list.push(numbered_state(alloc, numbers, &work.numbers, &work.edges)?)?;
+    }
+    Ok(())
 }
 
 /// All states, numbered in the order in which their kernels first appear, and the same states by
@@ -85,11 +139,8 @@ pub(crate) fn numbered_states<'grammar, L: LookaheadBuild>(
         (λ made. AreNumberedAs numbers.now made.0.items made.1.items) }
 {
     let mut kernels = first_kernels(alloc, lr, numbers)?;
-    let mut work = Workspace::new(alloc);
     let mut states = Vec::new(alloc);
     let mut list = Vec::new(alloc);
-    while add_state(alloc, lr, numbers, &mut kernels, &mut states, &mut work)? {
-        list.push(numbered_state(alloc, numbers, &work.numbers, &work.edges)?)?;
-    }
+    number_all(alloc, lr, numbers, &mut kernels, &mut states, &mut list)?;
     Ok((states, list))
 }

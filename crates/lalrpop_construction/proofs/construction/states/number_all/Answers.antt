@@ -9,39 +9,39 @@ use Rattle.lalrpop_construction.proofs.theory.construction.Building.{Building-al
 use Rattle.lalrpop_construction.proofs.theory.states.ItemNumbers.{Items-numbered}
 use Rattle.lalrpop_construction.proofs.theory.states.MadeByNumber.{As-more, Numbered-as}
 use Rattle.lalrpop_construction.proofs.theory.construction.NumberedBuilding.{Fewer-left}
-use Rattle.lalrpop_construction.proofs.construction.states.numbered_states.Goals as goal
+use Rattle.lalrpop_construction.proofs.construction.states.number_all.Goals as goal
 
-pub loop-list-smaller : goal.loop-list-smaller
-loop-list-smaller g c =
+pub loop-work-smaller : goal.loop-work-smaller
+loop-work-smaller g c =
     let made = c.in_ok-add_state.ensures in
-    Fewer-left _ _ _ _ g.met.L.Lookahead.same_by_meaning (kernels_by c.args.numbers.now.items.items c.add_state.new.kernels) c.add_state.new.states.items made.made.building c.loop-list.kernels.handed (made.counted c.if-branch.true)
+    Fewer-left _ _ _ _ g.met.L.Lookahead.same_by_meaning (kernels_by c.args.numbers.now.items.items c.add_state.new.kernels) c.add_state.new.states.items made.made.building c.loop-work.kernels.handed (made.counted c.if-branch.true)
 
 pub numbered_state-requires-clause-known : goal.numbered_state-requires-clause-known
 numbered_state-requires-clause-known g c =
     let n = c.args.numbers.now in
     let (state, grown, made) = c.in_ok-add_state.ensures.more c.if-branch.true in
     subst (λ (ks : List ℕ). (k : ℕ) → Contains ks k → k < length n.items.items) (sym c.deref.ensures.value)
-    (Items-numbered n.items.items c.requires.items.ascend c.add_state.new.work.numbers.items state.items.vec.items made.items).known
+    (Items-numbered n.items.items c.requires.numbers.items.ascend c.add_state.new.work.numbers.items state.items.vec.items made.items).known
 
 pub numbered_state-requires-clause-ascend : goal.numbered_state-requires-clause-ascend
 numbered_state-requires-clause-ascend g c =
     let (state, grown, made) = c.in_ok-add_state.ensures.more c.if-branch.true in
-    subst (λ (es : List (ℕ × ℕ)). NumbersAscend es) (sym c.deref-in-loop-list.ensures.value) made.edges.ascend
+    subst (λ (es : List (ℕ × ℕ)). NumbersAscend es) (sym c.deref-in-loop-work.ensures.value) made.edges.ascend
 
-pub loop-list-preserved : goal.loop-list-preserved
-loop-list-preserved g c =
+pub loop-work-preserved : goal.loop-work-preserved
+loop-work-preserved g c =
     let n = c.args.numbers.now in
     let (state, grown, made) = c.in_ok-add_state.ensures.more c.if-branch.true in
     let new : NumberedState = c.in_ok-numbered_state.field-0 in
     let own = c.in_ok-numbered_state.ensures in
     let items : new.items.items ≡ c.add_state.new.work.numbers.items = own.items ∙ c.deref.ensures.value in
-    let edges : new.edges.items ≡ c.add_state.new.work.edges.items = own.edges ∙ c.deref-in-loop-list.ensures.value in
+    let edges : new.edges.items ≡ c.add_state.new.work.edges.items = own.edges ∙ c.deref-in-loop-work.ensures.value in
     let here = subst (λ (ks : List ℕ). IsMadeByNumber n ks new.edges.items state) (sym items) (subst (λ (es : List (ℕ × ℕ)). IsMadeByNumber n c.add_state.new.work.numbers.items es state) (sym edges) made) in
-    let numbered = Numbered-as c.args.lr.now.construction.rules n c.requires state new here (own.reductions ∙ ap (finished_in n) (sym own.items)) in
+    let numbered = Numbered-as c.args.lr.now.construction.rules n c.requires.numbers state new here (own.reductions ∙ ap (finished_in n) (sym own.items)) in
     record {
       made = c.in_ok-add_state.ensures.made;
       numbered = subst (λ (states : List (State g.row.L.Denot)). AreNumberedAs n states c.push.new.self.items) (sym grown)
-          (rw c.in_ok-push.ensures.items (As-more n c.loop-list.states.items state c.loop-list.list.items new c.loop-list.invariant.numbered numbered));
+          (rw c.in_ok-push.ensures.items (As-more n c.loop-work.states.items state c.loop-work.list.items new c.loop-work.invariant.numbered numbered));
     }
 
 pub returns-clause-states : goal.returns-clause-states

@@ -4,7 +4,7 @@ use Rattle.lalrpop_states.specs.closures.Closure.{itself}
 use Rattle.lalrpop_construction.specs.Words.{AreMadeSoFar}
 use Rattle.lalrpop_construction.proofs.theory.closures.TokenTables.{Passes}
 use Rattle.lalrpop_construction.proofs.theory.states.Universe.{kernels_limit}
-use Rattle.lalrpop_construction.proofs.construction.conflict_free.conflict_free_states.Given as goal
+use Rattle.lalrpop_construction.proofs.construction.conflict_free.build_without_conflict.Given as goal
 
 -- states without conflicts were made so far
 abbrev pub invariant-states : goal.invariant-states

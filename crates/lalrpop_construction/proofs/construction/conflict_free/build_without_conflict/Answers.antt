@@ -13,18 +13,18 @@ use Rattle.lalrpop_construction.proofs.theory.closures.TokenTables.{Lists, Passe
 use Rattle.lalrpop_construction.proofs.theory.conflicts.GrownConflicts.{States-of}
 use Rattle.lalrpop_construction.proofs.theory.construction.Building.{Building-all}
 use Rattle.lalrpop_construction.proofs.theory.construction.NumberedBuilding.{Fewer-left}
-use Rattle.lalrpop_construction.proofs.construction.conflict_free.conflict_free_states.Goals as goal
+use Rattle.lalrpop_construction.proofs.construction.conflict_free.build_without_conflict.Goals as goal
 
 pub states-smaller : goal.states-smaller
 states-smaller c =
-    let items = c.numbers-numbers.result.now.items.items in
+    let items = c.args.numbers.now.items.items in
     let all : List (State Bits) = c.states.states.items in
     let step : (states : List (State Bits)) → AreMadeSoFar itself Begins Passes c.args.lr.now.construction items c.states.kernels states → AreMadeSoFar itself Begins Passes c.args.lr.now.construction items c.next_state.new.kernels (states ++ c.in-Some.state ∷ []) = rw c.in-Some.is at c.in_ok-state.ensures.made in
     Fewer-left _ _ _ _ (λ a b same. same) (kernels_by items c.next_state.new.kernels) (all ++ c.in-Some.state ∷ []) (step all c.states.invariant.0).building c.states.kernels.handed (rw c.in-Some.is at c.in_ok-state.ensures.counted)
 
 pub states-preserved : goal.states-preserved
 states-preserved c =
-    let items = c.numbers-numbers.result.now.items.items in
+    let items = c.args.numbers.now.items.items in
     let terminals : List TerminalString = c.args.lr.now.construction.rules.terminals in
     let all : List (State Bits) = c.states.states.items in
     let state : State Bits = c.in-Some.state in
@@ -35,7 +35,7 @@ states-preserved c =
 pub returns-then-not-free-clause-none : goal.returns-then-not-free-clause-none
 returns-then-not-free-clause-none c none =
     let k = c.args.lr.now.construction in
-    let items = c.numbers-numbers.result.now.items.items in
+    let items = c.args.numbers.now.items.items in
     let all : List (State Bits) = c.states.states.items in
     let state : State Bits = c.in-Some.state in
     let step : (states : List (State Bits)) → AreMadeSoFar itself Begins Passes k items c.states.kernels states → AreMadeSoFar itself Begins Passes k items c.next_state.new.kernels (states ++ state ∷ []) = rw c.in-Some.is at c.in_ok-state.ensures.made in
@@ -47,9 +47,9 @@ returns-then-not-free-clause-none c none =
     }
 
 pub returns-clause-tables : goal.returns-clause-tables
-returns-clause-tables c =
+returns-clause-tables c free =
     let k = c.args.lr.now.construction in
-    let items = c.numbers-numbers.result.now.items.items in
+    let items = c.args.numbers.now.items.items in
     let all : List (State Bits) = c.states.states.items in
     let same : c.next_state.new.kernels ≡ c.states.kernels = (rw c.in_default.is at c.in_ok-state.ensures.none) refl in
     let end : c.next_state.new.kernels.handed ≡ length c.next_state.new.kernels.list = (rw c.in_default.is at c.in_ok-state.ensures.all) refl in
