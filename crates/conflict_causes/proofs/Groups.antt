@@ -238,18 +238,6 @@ module _ {X K : Type 0} (P : X → K → Type 0) (xs : List X) where
           let after = new_key keys old before (subst AllDiffer e differ) in
           subst (λ (ks : List K). AreKeyed (count + 1) ks new) (sym e) (subst (AreKeyed (count + 1) (keys ++ k ∷ [])) (sym made) after)
 
-  -- before the first number there is no group
-  pub no_group : AreKeyed 0 [] []
-  no_group = record {
-    many = refl;
-    differ = λ i j x l at. absurd (omega (arith, slice_get_within [] i x at));
-    each = λ i l. absurd (omega (arith, l));
-    keyed = λ n i group at. absurd (omega (arith, slice_get_within [] n group at));
-    rising = λ n group at. absurd (omega (arith, slice_get_within [] n group at));
-    some = λ n group at. absurd (omega (arith, slice_get_within [] n group at));
-    in_order = λ m n a b l at. absurd (omega (arith, slice_get_within [] m a at));
-  }
-
   -- if equal keys mean the same, the numbers are in their groups
   module _ (Same : X → X → Type 0) (itself : (x : X) → Same x x) (exact : (x y : X) (k l : K) → P x k → P y l → (k ≡ l) ↔ Same x y) (keys : List K) (groups : List (List ℕ)) (all : AreKeyed (length xs) keys groups) where
     same_as : (m n i j : ℕ) (a b : List ℕ) (x y : X) → slice_get groups m ≡ Some a → slice_get groups n ≡ Some b → Contains a i → Contains b j → slice_get xs i ≡ Some x → slice_get xs j ≡ Some y → (m ≡ n) ↔ Same x y

@@ -1,5 +1,5 @@
 -- The words of characters that are no letters, each with a capital.
-use Rattle.std.specs.Prelude.{ℕ, false, ◌==◌, if◌then◌else◌, List, [], ◌∷◌, ◌++◌, codes}
+use Rattle.std.specs.Prelude.{ℕ, false, ◌==◌, if◌then◌else◌, List, [], ◌++◌, codes}
 use Rattle.std.specs.Fmt.{digits}
 use Rattle.constant_names.specs.Signs.{or_else}
 

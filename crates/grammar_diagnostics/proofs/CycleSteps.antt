@@ -64,11 +64,6 @@ module _ (g : Grammar) (a : NonterminalString) where
   from_kept : (xs : List Step) (y : Step) (k : ℕ) (s : Step) → IsStepFrom g xs k s → IsStepFrom g (xs ++ y ∷ []) k s
   from_kept xs y k s h = record { parent = h.parent; there = get_kept xs y s.from h.parent h.there; before = h.before; leads = h.leads }
 
-  -- the first step alone
-  pub steps_start : (s : Step) → s.name.now ≡ a → AreSteps g a (s ∷ [])
-  steps_start s h zero t e = inl (ap (λ (x : Step). x.name.now) (sym (same_some e)) ∙ h, refl)
-  steps_start s h (suc k) t e = absurd (some≢none (sym e))
-
   -- one more step
   pub steps_more : (xs : List Step) (b : NonterminalString) (y : Step) → AreSteps g a xs → HasStepAt xs y.from b → LeadsAlone g b y.name.now → AreSteps g a (xs ++ y ∷ [])
   steps_more xs b y h p leads k s e = elim (get_push xs y k s e) [

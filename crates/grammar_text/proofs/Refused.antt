@@ -1,5 +1,5 @@
 -- Productions that a builder refuses, at their first faulty word.
-use Rattle.std.proofs.Common.{◌≡◌, ℕ, zero, suc, ◌+◌, ◌<◌, Bool, true, not, cond, nat_lt, List, [], ◌∷◌, length, map, drop, ap, sym, ◌∙◌, arith, lt-ltb}
+use Rattle.std.proofs.Common.{◌≡◌, ℕ, zero, suc, ◌+◌, Bool, true, not, cond, nat_lt, List, [], ◌∷◌, length, map, drop, ap, sym, ◌∙◌, arith, lt-ltb}
 use Rattle.std.specs.Prelude.{position, slice_get, Some, None, unwrap_or}
 use Rattle.std.specs.List.{position_or_len}
 use Rattle.std.proofs.lemmas.Option.{slice_get_within}

@@ -1,8 +1,7 @@
 -- Results of checks.
-use Rattle.std.proofs.Common.{◌≡◌, ℕ, inr, List, Option, None, Some, Result, Ok, Err, subst}
-use Rattle.std.specs.Prelude.{IfSome, IfOk, position}
+use Rattle.std.proofs.Common.{◌≡◌, ℕ, inr, List, Option, None, Some, subst}
+use Rattle.std.specs.Prelude.{IfSome, position}
 use Rattle.std.specs.Str.{IsUtf8}
-use Rattle.lalrpop_collections.specs.declared.memory.OutOfMemory.{OutOfMemory}
 use Rattle.lalrpop_grammar.specs.declared.repr.NonterminalString.{NonterminalString}
 use Rattle.lalrpop_grammar.specs.declared.repr.grammar.Grammar.{Grammar}
 use Rattle.lalrpop_construction.specs.declared.options.Method.{Method}
@@ -11,23 +10,14 @@ use Rattle.grammar_text.specs.Grammar.{StandsFor}
 use Rattle.grammar_text.specs.Symbols.{name_of}
 use Rattle.program_answers.specs.declared.answer.Answer.{Answer}
 use Rattle.program_answers.specs.declared.answer.Answer.TheVariants.{Output, Fault, Usage, TooManyActions, Memory}
-use Rattle.program_answers.specs.Answers.{OfFile, IsTooMany, inlined}
-use Rattle.lrshow_check.specs.Check.{AreRightFindings, AreWarned, IsCheckAnswer, IsCheckShown, IsLastAnswer}
+use Rattle.program_answers.specs.Answers.{OfFile, inlined}
+use Rattle.lrshow_check.specs.Check.{AreRightFindings, AreWarned, IsCheckAnswer, IsLastAnswer}
 use Rattle.lrshow_check.specs.Findings.{Finding}
 use Rattle.lrshow_arguments.specs.Words.{AskedCheck}
 
 of_file : (P : List ℕ → Type 0) (bytes : List ℕ) (known : Option (List ℕ)) → IfSome known (λ xs. bytes ≡ xs) → P bytes → OfFile P (Some known)
 of_file P bytes None e p = tt
 of_file P bytes (Some xs) e p = subst P e p
-
--- a result for a text is a result for a file that has the text
-pub checked_file : (method : Method) (asked : AskedCheck) (name bytes : List ℕ) (known : Option (List ℕ)) (r : Result Answer OutOfMemory) → IfSome known (λ xs. bytes ≡ xs) → IfOk r (IsCheckAnswer method asked name (Some (Some bytes))) → IfOk r (IsCheckAnswer method asked name (Some known))
-checked_file method asked name bytes known (Ok (Output s)) e h = of_file (IsCheckShown method asked name s) bytes known e h
-checked_file method asked name bytes known (Ok (Fault text)) e h = h
-checked_file method asked name bytes known (Ok Usage) e h = h
-checked_file method asked name bytes known (Ok TooManyActions) e h = of_file IsTooMany bytes known e h
-checked_file method asked name bytes known (Ok Memory) e h = tt
-checked_file method asked name bytes known (Err error) e h = tt
 
 -- a result after the warnings of the grammar that a text gives is a result for the text
 pub checked_grammar : (method : Method) (asked : AskedCheck) (start : NonterminalString) (name text : List ℕ) (warned : List Finding) (g : Grammar) (answer : Answer) → start ≡ name_of asked.start → IsUtf8 text → position is_fault (lines_of text) ≡ None → StandsFor (lines_of text) g → AreWarned text start g warned

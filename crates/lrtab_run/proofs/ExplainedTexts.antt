@@ -1,6 +1,6 @@
 -- The text of an explained conflict is the part of the conflict.
 use Rattle.std.proofs.Common.{◌≡◌, ℕ, ◌+◌, List, [], ◌∷◌, ◌++◌, length, refl, sym, ◌∙◌, ap, subst, append-nil}
-use Rattle.std.specs.Prelude.{codes, slice_get}
+use Rattle.std.specs.Prelude.{codes}
 use Rattle.std.specs.List.{flat_map}
 use Rattle.lalrpop_base.specs.Words.{Bits, Dotted, Rules}
 use Rattle.lalrpop_states.specs.declared.lr1_core.state.Action.{Action}

@@ -1,9 +1,9 @@
 -- What the program shows of a grammar that a text gives, with its marked nonterminals inlined: the
 -- outcome of a parse by its tables, the report of its tables or conflicts, or the explanation of
 -- its conflicts.
-use Rattle.std.specs.Prelude.{◌≡◌, ◌↔◌, ◌⊎◌, ℕ, ◌<◌, ◌≤◌, List, [], ◌∷◌, ◌++◌, map, codes, Result, Ok, Err}
+use Rattle.std.specs.Prelude.{◌≡◌, ◌⊎◌, ℕ, ◌≤◌, List, ◌++◌, map, codes, Result, Ok, Err}
 use Rattle.std.specs.Fmt.{decimal}
-use Rattle.lalrpop_base.specs.Words.{Bits, contents, IsSentence, IsOnNoRightSide, token_text, Outcome, Parsed, Refused, Limit, HasOutcome, IsFirstWrong}
+use Rattle.lalrpop_base.specs.Words.{Bits, contents, IsOnNoRightSide, token_text, Outcome, Parsed, Refused, Limit, HasOutcome}
 use Rattle.lalrpop_base.specs.Words.{Contents, Tree, beside, no_trees, leaves, nodes, IsParseTree, IsWellFormed, productions, rules_of}
 use Rattle.lalrpop_states.specs.declared.lr1_core.state.State.{State}
 use Rattle.lalrpop_states.specs.declared.lr1_core.state.TableConstructionError.{TableConstructionError}
@@ -14,7 +14,7 @@ use Rattle.lalrpop_grammar.specs.declared.repr.TerminalString.TheVariants.{Liter
 use Rattle.lalrpop_grammar.specs.declared.repr.grammar.Grammar.{Grammar}
 use Rattle.lalrpop_tables.specs.Words.{AreTablesOf, HasConflictsOf, IsConflictCount}
 use Rattle.lalrpop_construction.specs.declared.options.Method.{Method}
-use Rattle.lalrpop_lr1.specs.Words.{IsCutOff, IsOutcomeFor, IsMarked, Mentions, IsInlined, tree_of, tree_text, tables_report, failure_report}
+use Rattle.lalrpop_lr1.specs.Words.{IsCutOff, IsOutcomeFor, tree_of, tree_text, tables_report, failure_report}
 use Rattle.lalrpop_parser.specs.declared.interpret.error.InterpretError.{InterpretError}
 use Rattle.lalrpop_parser.specs.declared.interpret.error.InterpretError.TheVariants.{Refused as RefusedBy, Limit as LimitPassed, Memory}
 use Rattle.lalrpop_parser.specs.declared.interpret.tree.ParseTree.{ParseTree}

@@ -1,11 +1,9 @@
 -- One turn of a run, at a place of the tokens.
-use Rattle.std.proofs.Common.{◌≡◌, ◌+◌, ◌<◌, ◌≤◌, ℕ, suc, List, ◌∷◌, drop, length, get_or, ap, ◌∙◌, sym, add-one}
-use Rattle.std.proofs.Math.ListN.{drop_of_length-le}
+use Rattle.std.proofs.Common.{◌≡◌, ◌+◌, ◌<◌, ℕ, suc, List, ◌∷◌, drop, length, get_or, ap, ◌∙◌, sym, add-one}
 use Rattle.std.proofs.lemmas.List.{drop_more}
-use Rattle.parse_calls.specs.Runs.{Run, after_step, events_after, halted, run, stack_after, step_of}
+use Rattle.parse_calls.specs.Runs.{Run, after_step, events_after, run, stack_after, step_of}
 use Rattle.parse_calls.specs.Turns.{turn_at}
 use Rattle.parse_calls.specs.declared.machine.Ending.{Ending}
-use Rattle.parse_calls.specs.declared.machine.Ending.TheVariants.{AllShifted}
 use Rattle.parse_calls.specs.declared.machine.Step.{Step}
 use Rattle.parse_calls.specs.declared.machine.Step.TheVariants.{Ended, GoesOn, Shifted}
 use Rattle.parse_calls.specs.declared.turns.Turn.{Turn}
@@ -43,20 +41,3 @@ module _ (numbers : List ℕ) (left new : ℕ) (stack events : List ℕ) (stack_
   -- or it ends
   pub has_ended : (ending : Ending) → Ended ending ≡ step_of turn → run numbers left stack events (drop at tokens) ≡ record { ending = ending; stack = stack_now; events = events_now; left = new; unread = drop at tokens }
   has_ended ending made = one_turn (Ended ending) made ∙ ap (λ (r : List ℕ). record { ending = ending; stack = stack_now; events = events_now; left = new; unread = r }) (sym (from_place tokens at token within is))
-
--- without a step that is left, the run halts
-pub has_halted : (numbers : List ℕ) (left : ℕ) (stack events tokens : List ℕ) (at token : ℕ) (turn : Turn) → left ≡ 0 → at < length tokens → token ≡ get_or tokens at 0 → turn ≡ turn_at numbers stack token →
-    run numbers left stack events (drop at tokens) ≡ record { ending = halted turn; stack = stack; events = events; left = left; unread = drop at tokens }
-has_halted numbers left stack events tokens at token turn none within is next =
-    ap (λ k. run numbers k stack events (drop at tokens)) none
-    ∙ ap (run numbers 0 stack events) (from_place tokens at token within is)
-    ∙ sym (ap (λ (t : Turn). record { ending = halted t; stack = stack; events = events; left = 0; unread = token ∷ drop (at + 1) tokens }) next)
-    ∙ sym (ap (λ k. record { ending = halted turn; stack = stack; events = events; left = k; unread = token ∷ drop (at + 1) tokens }) none)
-    ∙ sym (ap (λ (r : List ℕ). record { ending = halted turn; stack = stack; events = events; left = left; unread = r }) (from_place tokens at token within is))
-
--- without a token that is left, all were shifted
-pub has_shifted_all : (numbers : List ℕ) (left : ℕ) (stack events tokens : List ℕ) (at : ℕ) → length tokens ≤ at →
-    run numbers left stack events (drop at tokens) ≡ record { ending = AllShifted; stack = stack; events = events; left = left; unread = drop at tokens }
-has_shifted_all numbers left stack events tokens at past =
-    ap (run numbers left stack events) (drop_of_length-le tokens past)
-    ∙ ap (λ (r : List ℕ). record { ending = AllShifted; stack = stack; events = events; left = left; unread = r }) (sym (drop_of_length-le tokens past))

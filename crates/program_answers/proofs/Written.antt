@@ -1,6 +1,6 @@
 -- A text that is written part by part.
 use Rattle.std.proofs.Common.{◌≡◌, ℕ, ◌-◌, List, [], ◌++◌, ◌+◌, ◌<◌, length, take, drop, get_or, Option, None, Some, ap, sym, subst, ◌∙◌, refl, arith, append_assoc}
-use Rattle.std.proofs.lemmas.List.{append-nil, take_all, length-drop, take-append-drop}
+use Rattle.std.proofs.lemmas.List.{take_all, length-drop, take-append-drop}
 use Rattle.std.proofs.lemmas.Grind.{flat_map-append}
 use Rattle.std.specs.List.{flat_map}
 use Rattle.std.specs.Io.KnownBytes.{Appends}

@@ -1,5 +1,5 @@
 -- What the outcome of a parse says of a grammar.
-use Rattle.std.specs.Prelude.{ℕ, List}
+use Rattle.std.specs.Prelude.{List}
 use Rattle.lalrpop_base.specs.Words.{Outcome, Parsed, Refused, Limit, IsFirstWrong, IsParseTree}
 use Rattle.lalrpop_grammar.specs.declared.repr.NonterminalString.{NonterminalString}
 use Rattle.lalrpop_grammar.specs.declared.repr.Production.{Production}

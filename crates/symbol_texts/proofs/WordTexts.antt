@@ -56,10 +56,6 @@ no_bar_or_else : (u v : List ℕ) → no_bar u ≡ true → no_bar v ≡ true �
 no_bar_or_else [] v hu hv = hv
 no_bar_or_else (b ∷ u) v hu hv = hu
 
-solid_if : (b : Bool) (u v : List ℕ) → solid u ≡ true → solid v ≡ true → solid (cond b u v) ≡ true
-solid_if true u v hu hv = hu
-solid_if false u v hu hv = hv
-
 solid_or_else : (u v : List ℕ) → no_bar u ≡ true → solid v ≡ true → solid (or_else u v) ≡ true
 solid_or_else [] v hu hv = hv
 solid_or_else (b ∷ u) v hu hv = hu

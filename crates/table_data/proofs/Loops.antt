@@ -1,8 +1,8 @@
 -- Lemmas on loops that append the texts of a list.
-use Rattle.std.proofs.Common.{◌≡◌, ◌+◌, ◌<◌, ◌++◌, ◌∙◌, ◌∷◌, [], ℕ, List, ap, sym, refl, codes, append_assoc, append-nil, get_or, length, map, take}
+use Rattle.std.proofs.Common.{◌≡◌, ◌+◌, ◌<◌, ◌++◌, ◌∙◌, ◌∷◌, [], ℕ, List, ap, sym, refl, codes, append_assoc, get_or, length, map, take}
 use Rattle.std.proofs.lemmas.List.{flat_map_more, take_more}
 use Rattle.std.specs.List.{flat_map}
-use Rattle.table_data.specs.Json.{array, after_separator, separated}
+use Rattle.table_data.specs.Json.{array, after_separator}
 
 -- if a list has those of the first i items and grows by those of item i, it has those of the first
 -- i + 1
@@ -16,11 +16,6 @@ one_more f xs i x start now next inside same so_far grew =
 abbrev pub going : {X : Type 0} → List ℕ → (X → List ℕ) → List X → List ℕ
 going separator text [] = []
 going separator text (x ∷ xs) = after_separator separator text x ++ flat_map (after_separator (codes ",") text) xs
-
--- before the first step, the whole list is left to be written, without a separator before it
-pub going_listed : {X : Type 0} (text : X → List ℕ) (xs : List X) → going [] text xs ≡ separated (codes ",") text xs
-going_listed text [] = refl
-going_listed text (x ∷ xs) = refl
 
 -- after the first value, each value comes after a comma
 pub going_on : {X : Type 0} (text : X → List ℕ) (xs : List X) → going (codes ",") text xs ≡ flat_map (after_separator (codes ",") text) xs
@@ -36,11 +31,6 @@ going_step text separator left rest x now next whole split grew so_far =
     ∙ append_assoc now (after_separator separator text x) (flat_map (after_separator (codes ",") text) rest)
     ∙ ap (λ t. now ++ going separator text t) (sym split)
     ∙ so_far
-
--- if no value is left, the whole text is written
-pub going_end : {X : Type 0} (text : X → List ℕ) (separator : List ℕ) (left : List X) (now whole : List ℕ) → left ≡ [] → now ++ going separator text left ≡ whole → now ≡ whole
-going_end text separator left now whole none so_far =
-    sym (append-nil now) ∙ ap (λ t. now ++ going separator text t) (sym none) ∙ so_far
 
 -- ---- texts that grow piece by piece
 -- a text that grew by a piece and then by others grew by all of these

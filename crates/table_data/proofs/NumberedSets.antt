@@ -10,7 +10,7 @@ use Rattle.std.proofs.lemmas.Bool.{cases_lt}
 use Rattle.std.proofs.lemmas.List.{length_push}
 use Rattle.std.proofs.lemmas.List.Folds.{position_or_len_push}
 use Rattle.std.proofs.lemmas.List.Sums.{prefix_len-le-length, fails_before_first, passes_at_first}
-use Rattle.std.proofs.lemmas.Option.{cond_some, none-some}
+use Rattle.std.proofs.lemmas.Option.{none-some}
 use Rattle.lalrpop_collections.specs.Words.{Bits}
 use Rattle.lalrpop_collections.specs.lists.Bits.{bits_exact}
 use Rattle.lalrpop_collections.proofs.theory.lists.Places.{differ_push}
@@ -76,10 +76,6 @@ module _ (sets : List Bits) where
       let past : number_of sets set ≡ length sets = at_end (number_of sets set) (length sets) (no_further set) none in
       let same : is_same (get_or sets place set) set ≡ true = ap (λ other. is_same other set) is ∙ same_laws.refl set in
       true≢false (sym same ∙ fails_before_first (λ other. is_same other set) sets place set (omega arith))
-
-  -- what is found is the number, and what is not found has the length as its number
-  pub number_found : (set : Bits) (number : ℕ) → Some number ≡ position (λ other. is_same other set) sets → number ≡ number_of sets set
-  number_found set number is = sym ((cond_some _ _ _ (sym is)).1)
 
   pub number_past : (set : Bits) → None ≡ position (λ other. is_same other set) sets → length sets ≡ number_of sets set
   number_past set none = sym (at_end (number_of sets set) (length sets) (no_further set) (sym none))

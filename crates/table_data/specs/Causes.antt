@@ -1,5 +1,5 @@
 -- The causes of conflicts as JSON, with what a search for a witness of ambiguity found.
-use Rattle.std.specs.Prelude.{◌≡◌, ℕ, List, ◌++◌, map, codes}
+use Rattle.std.specs.Prelude.{ℕ, List, ◌++◌, map, codes}
 use Rattle.std.specs.Fmt.{decimal}
 use Rattle.std.specs.List.{All}
 use Rattle.json.specs.Print.{quoted}

@@ -2,18 +2,13 @@
 use Rattle.std.proofs.Common.{◌≡◌, ⊎_elim, ℕ, ◌+◌, ◌<◌, List, [], ◌∷◌, ◌++◌, length, map, take, get_or, slice_get, Option, Some, refl, sym, ◌∙◌, ap, subst}
 use Rattle.std.specs.Borrow.{Bor}
 use Rattle.std.proofs.lemmas.List.{map-append, take_more}
-use Rattle.std.proofs.lemmas.Option.{slice_get_within}
 use Rattle.lalrpop_base.specs.Words.{Bits}
-use Rattle.lalrpop_collections.proofs.theory.lists.Places.{push_cases, slice_get-append_before}
+use Rattle.lalrpop_collections.proofs.theory.lists.Places.{push_cases}
 use Rattle.lalrpop_grammar.specs.declared.repr.Production.{Production}
 use Rattle.lalrpop_states.specs.declared.lr1_core.state.State.{State}
 use Rattle.table_numbers.specs.Lists.{Lists}
 use Rattle.table_numbers.specs.Numbered.{AreNumbered, EachIsNumbered, IsNumbered, Keeps, reduction_at, reduction_parts}
 use Rattle.table_numbers.specs.declared.tables.NumberedState.{NumberedState}
-
--- a list keeps what it has when a value is added
-pub keeps_push : {A : Type 0} (xs : List A) (x : A) → Keeps xs (xs ++ x ∷ [])
-keeps_push xs x n y at = slice_get-append_before xs (x ∷ []) n (slice_get_within xs n y at) ∙ at
 
 module _ (productions : List Production) (old new : List Bits) (kept : Keeps old new) where
   kept_at : (r : ℕ × ℕ) (q : Bits × Bor Production) → reduction_at productions old r ≡ reduction_parts q → reduction_at productions new r ≡ reduction_parts q

@@ -1,6 +1,6 @@
 -- `==` of texts and lists is exact: it is `true` for equal values only.
-use Rattle.std.specs.Prelude.{◌≡◌, ℕ, Bool, true, false, ◌==◌, ◌&&◌, List, [], ◌∷◌, refl}
-use Rattle.std.proofs.Common.{sym, ap, ◌∙◌, eqb-true}
+use Rattle.std.specs.Prelude.{◌≡◌, Bool, true, false, ◌==◌, ◌&&◌, [], ◌∷◌, refl}
+use Rattle.std.proofs.Common.{sym, eqb-true}
 use lib.Pointwise.{pointwise}
 use mathlib.Core.Bool.{true≢false}
 

@@ -8,13 +8,11 @@ use Rattle.std.specs.Map.{lookup}
 use Rattle.lalrpop_base.specs.Words.{name_cmp}
 use Rattle.lalrpop_grammar.specs.declared.repr.NonterminalString.{NonterminalString}
 use Rattle.lalrpop_grammar.specs.declared.repr.ActionFn.{ActionFn}
-use Rattle.lalrpop_grammar.specs.declared.repr.Span.{Span}
 use Rattle.lalrpop_grammar.specs.declared.repr.Production.{Production}
 use Rattle.lalrpop_grammar.specs.declared.repr.inlined.InlinedSymbol.{InlinedSymbol}
 use Rattle.lalrpop_grammar.specs.declared.repr.inlined.InlinedSymbol.TheVariants.{Original, Inlined}
 use Rattle.lalrpop_grammar.specs.declared.repr.grammar.ActionFnDefn.{ActionFnDefn}
 use Rattle.lalrpop_grammar.specs.declared.repr.grammar.ActionFnDefnKind.TheVariants.{Inline}
-use Rattle.lalrpop_grammar.specs.declared.repr.grammar.Attribute.{Attribute}
 use Rattle.lalrpop_grammar.specs.declared.repr.grammar.NonterminalData.{NonterminalData}
 use Rattle.lalrpop_grammar.specs.declared.repr.grammar.Grammar.{Grammar}
 use Rattle.lalrpop_inline.specs.inlining.InlineChoices.{mentions, choices, laid_out}

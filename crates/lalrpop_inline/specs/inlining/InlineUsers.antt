@@ -1,15 +1,15 @@
 -- The entries that mention a nonterminal, and these entries with the nonterminal inlined.
-use Rattle.std.specs.Prelude.{cond, List, [], ◌∷◌, Option, None, Some, Contains}
+use Rattle.std.specs.Prelude.{cond, List, [], ◌∷◌, Contains}
 use Rattle.std.specs.BTreeMap.{is_at}
 use Rattle.std.specs.BTreeSet.{BTreeSet}
-use Rattle.lalrpop_base.specs.Words.{collection_at, name_cmp}
+use Rattle.lalrpop_base.specs.Words.{name_cmp}
 use Rattle.lalrpop_grammar.specs.declared.repr.NonterminalString.{NonterminalString}
 use Rattle.lalrpop_grammar.specs.declared.repr.Production.{Production}
 use Rattle.lalrpop_grammar.specs.declared.repr.grammar.ActionFnDefn.{ActionFnDefn}
 use Rattle.lalrpop_grammar.specs.declared.repr.grammar.Grammar.{Grammar}
 use Rattle.lalrpop_inline.specs.inlining.InlineOrder.{IsMarked, Mentions}
 use Rattle.lalrpop_inline.specs.inlining.InlineSteps.{View, entry_with, entry_in_front, replaced_all}
-use Rattle.lalrpop_grammar.specs.grammars.Entries.{users_at, listed_names, Entry}
+use Rattle.lalrpop_grammar.specs.grammars.Entries.{users_at, Entry}
 
 -- the right map has all users of the left one under the same names
 abbrev pub KeepsUsers : List (NonterminalString × BTreeSet NonterminalString) → List (NonterminalString × BTreeSet NonterminalString) → Type 0

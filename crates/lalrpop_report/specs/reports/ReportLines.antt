@@ -1,5 +1,5 @@
 -- The lines of a report, as texts: lists of bytes.
-use Rattle.std.specs.Prelude.{◌≡◌, ℕ, ◌-◌, List, [], ◌∷◌, ◌++◌, length, map, max, codes, replicate, slice_get, String, string_bytes, Some}
+use Rattle.std.specs.Prelude.{◌≡◌, ℕ, ◌-◌, List, [], ◌∷◌, ◌++◌, length, map, max, codes, replicate, slice_get, Some}
 use Rattle.std.specs.Fmt.{char_count, decimal}
 use Rattle.std.specs.List.{flat_map}
 use Rattle.std.specs.Borrow.{Bor}

@@ -1,10 +1,10 @@
 -- The condition that states with the same dotted productions can be merged.
-use Rattle.std.specs.Prelude.{◌≡◌, ℕ, List, [], map, slice_get, Option, Some, None}
+use Rattle.std.specs.Prelude.{◌≡◌, ℕ, List, [], slice_get, Option, Some, None}
 use Rattle.std.specs.BTreeMap.{BTreeMap, get}
 use Rattle.std.specs.declared.cmp.Ordering.{Ordering}
 use Rattle.lalrpop_states.specs.states.Coherent.{AreCoherent}
 use Rattle.lalrpop_collections.specs.lists.Each.{EachItem, EachEntry}
-use Rattle.lalrpop_states.specs.states.Items.{Dotted, dots}
+use Rattle.lalrpop_states.specs.states.Items.{dots}
 use Rattle.lalrpop_grammar.specs.grammars.WellFormed.{name_cmp}
 use Rattle.lalrpop_grammar.specs.contracts.repr.TerminalStringOrd.TheImpl as terminal_ord
 use Rattle.lalrpop_grammar.specs.declared.repr.Production.{Production}

@@ -4,7 +4,7 @@ use Rattle.std.specs.Borrow.{Bor}
 use Rattle.std.specs.BTreeMap.{get}
 use Rattle.std.specs.List.{flat_map}
 use Rattle.lalrpop_collections.specs.lists.Bits.{Bits, has}
-use Rattle.lalrpop_states.specs.states.Items.{Dotted, dotted_of}
+use Rattle.lalrpop_states.specs.states.Items.{dotted_of}
 use Rattle.lalrpop_grammar.specs.states.States.{Reduction, Contents}
 use Rattle.lalrpop_grammar.specs.grammars.TerminalPlaces.{place_in}
 use Rattle.lalrpop_grammar.specs.grammars.WellFormed.{name_cmp}

@@ -1,6 +1,6 @@
 -- The results of a construction of LR(1) tables for a grammar and a start symbol: tables, or states
 -- with their conflicts (Knuth 1965; DeRemer and Pennello 1982 for LALR(1)).
-use Rattle.std.specs.Prelude.{◌≡◌, ◌⊎◌, ℕ, ◌<◌, ◌-◌, ◌^◌, nat_lt, cond, List, length}
+use Rattle.std.specs.Prelude.{◌≡◌, ◌⊎◌, ℕ, ◌<◌, List, length}
 use Rattle.lalrpop_base.specs.Words.{Bits, AreCoherent, contents, IfConflicts, IsOnNoRightSide, AreFaithful, IsLR1, IsLALR1, productions, rules_of}
 use Rattle.lalrpop_construction.specs.Words.{AreSomeCanonicalStates, StopsAfter, AreStatesOf, AreTables, canonical_of, AreCanonicalStates, AreOrderedCanonical}
 use Rattle.lalrpop_construction.specs.Words.{AreConflictsOfFailure}

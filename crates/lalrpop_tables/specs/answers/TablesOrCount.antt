@@ -1,6 +1,6 @@
 -- The results of a construction of LR(1) tables that counts conflicts and lists none: tables, or
 -- the number of the canonical conflicts (Knuth 1965).
-use Rattle.std.specs.Prelude.{ℕ, List}
+use Rattle.std.specs.Prelude.{ℕ}
 use Rattle.lalrpop_grammar.specs.declared.repr.NonterminalString.{NonterminalString}
 use Rattle.lalrpop_grammar.specs.declared.repr.grammar.Grammar.{Grammar}
 use Rattle.lalrpop_tables.specs.answers.Lr1Answers.{AreBuiltTablesOf, AreTablesOf}

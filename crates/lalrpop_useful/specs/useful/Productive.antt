@@ -1,8 +1,6 @@
 -- Productive nonterminals, which are the generating ones of Hopcroft, Motwani and Ullman, "Introduction to Automata Theory, Languages, and Computation", section 7.1.1, and how they are found (sections 7.1.2 and 7.4.3).
-use Rattle.std.specs.Prelude.{◌≡◌, ◌⊎◌, ℕ, List, [], ◌∷◌, Contains, Option, Some, None, slice_get}
-use Rattle.std.specs.BTreeSet.{BTreeSet}
+use Rattle.std.specs.Prelude.{◌≡◌, ◌⊎◌, ℕ, List, [], ◌∷◌, Contains, Some, slice_get}
 use Rattle.lalrpop_collections.specs.declared.collections.walk.Walk.{Walk}
-use Rattle.lalrpop_collections.specs.lists.Multimaps.{collection_at}
 use Rattle.lalrpop_collections.specs.lists.Walks.{Visits}
 use Rattle.lalrpop_grammar.specs.declared.repr.NonterminalString.{NonterminalString}
 use Rattle.lalrpop_grammar.specs.declared.repr.Production.{Production}
@@ -10,9 +8,8 @@ use Rattle.lalrpop_grammar.specs.declared.repr.Symbol.{Symbol}
 use Rattle.lalrpop_grammar.specs.declared.repr.Symbol.TheVariants.{Nonterminal}
 use Rattle.lalrpop_grammar.specs.declared.repr.TerminalString.{TerminalString}
 use Rattle.lalrpop_grammar.specs.grammars.Grammar.{Derives, terminal_symbols}
-use Rattle.lalrpop_grammar.specs.grammars.WellFormed.{name_cmp}
 use Rattle.lalrpop_useful.specs.useful.Reachable.{HasProduction}
-use Rattle.lalrpop_grammar.specs.grammars.Entries.{users_at, listed_names, UserMap}
+use Rattle.lalrpop_grammar.specs.grammars.Entries.{users_at, UserMap}
 
 -- a nonterminal is productive if it derives a list of terminals
 abbrev pub IsProductive : List Production → NonterminalString → Type 0

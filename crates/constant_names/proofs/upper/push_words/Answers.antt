@@ -1,10 +1,9 @@
-use Rattle.std.proofs.Common.{◌≡◌, Bool, ◌||◌, ◌++◌, sym, ap, ◌∙◌, string_bytes, append_assoc}
+use Rattle.std.proofs.Common.{Bool, ◌++◌, sym, ap, ◌∙◌, string_bytes, append_assoc}
 use Rattle.std.proofs.lemmas.List.{append-nil}
 use Rattle.std.proofs.lemmas.Str.{IsUtf8-past_char}
 use Rattle.std.specs.Str.{chars}
 use Rattle.std.specs.Str.Iter.{chars_rest}
 use Rattle.constant_names.specs.Upper.{next_upper, upper_from}
-use Rattle.constant_names.specs.Words.{is_word_part}
 use Rattle.constant_names.proofs.UpperTexts.{upper_more, upper_nil}
 use Rattle.constant_names.proofs.upper.push_words.Goals as goal
 

@@ -1,5 +1,5 @@
 use Rattle.std.proofs.Common.{◌≡◌, ◌+◌, [], List, ℕ, false, true, get_or, subst}
-use Rattle.std.specs.Prelude.{slice_get, MatchOption, None, Option, Some}
+use Rattle.std.specs.Prelude.{slice_get, MatchOption, Option, Some}
 use Rattle.std.proofs.lemmas.Option.{slice_get-get_or}
 use Rattle.lalrpop_grammar.specs.declared.repr.Symbol.{Symbol}
 use Rattle.grammar_text.specs.declared.builder.SymbolText.TheVariants.{Nonterminal}

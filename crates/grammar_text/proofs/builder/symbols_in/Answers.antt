@@ -1,5 +1,5 @@
 use Rattle.std.proofs.Common.{◌≡◌, ◌+◌, [], true, map, get_or, ap, sym, ◌∙◌}
-use Rattle.std.specs.Prelude.{slice_get, is_none, Some}
+use Rattle.std.specs.Prelude.{is_none}
 use Rattle.std.specs.List.{position_or_len}
 use Rattle.std.proofs.lemmas.List.{drop-map}
 use Rattle.std.proofs.lemmas.Option.{slice_get-get_or}

@@ -1,4 +1,4 @@
-use Rattle.std.proofs.Common.{◌≡◌, refl}
+use Rattle.std.proofs.Common.{refl}
 use Rattle.lalrpop_grammar.proofs.laws.orders.Goals as goal
 
 pub returns-clause-terminals : goal.returns-clause-terminals

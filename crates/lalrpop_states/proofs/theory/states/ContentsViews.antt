@@ -1,6 +1,6 @@
 -- Coherent states of the code, by their contents.
 use Rattle.std.proofs.Common.{◌≡◌, ℕ, suc, ◌-◌, ◌<◌, Bool, List, length, map, Option, Some, None, refl, sym, ap, subst, ◌∙◌, arith}
-use Rattle.std.specs.Prelude.{Contains, slice_get, option_map, unwrap_or, IfSome}
+use Rattle.std.specs.Prelude.{Contains, slice_get, option_map, IfSome}
 use Rattle.std.specs.BTreeMap.{BTreeMap, get}
 use Rattle.std.specs.Cmp.{IsTotalOrder}
 use Rattle.std.proofs.lemmas.Map.Lookups.{CmpEqualImpliesEq}
@@ -15,7 +15,7 @@ use Rattle.lalrpop_grammar.specs.contracts.repr.NonterminalStringOrd.TheImpl as 
 use Rattle.lalrpop_grammar.specs.contracts.repr.TerminalStringPartialEq.TheImpl as terminal_eq
 use Rattle.lalrpop_grammar.specs.contracts.repr.NonterminalStringPartialEq.TheImpl as name_eq
 use Rattle.lalrpop_grammar.specs.contracts.repr.exact.TerminalStringExact.TheImpl as terminal_exact
-use Rattle.std.proofs.lemmas.Option.{slice_get_within, slice_get-map}
+use Rattle.std.proofs.lemmas.Option.{slice_get_within}
 use Rattle.std.proofs.lemmas.Map.Views.{IfSome-get}
 use Rattle.lalrpop_grammar.specs.states.States.{Reduction}
 use Rattle.lalrpop_states.proofs.Types.{Production, State, StateIndex, Symbol, Token}

@@ -1,6 +1,6 @@
 -- A fact holds of each edge of a state exactly if it holds of each shift and of each goto.
-use Rattle.std.proofs.Common.{◌≡◌, ℕ, zero, suc, List, [], ◌∷◌, ◌++◌, map, refl, ap, subst}
-use Rattle.std.specs.Prelude.{slice_get, Some, unwrap_or}
+use Rattle.std.proofs.Common.{zero, suc, List, [], ◌∷◌, ◌++◌, map, refl, ap, subst}
+use Rattle.std.specs.Prelude.{unwrap_or}
 use Rattle.lalrpop_collections.specs.Words.{EachEntry, EachItem}
 use Rattle.lalrpop_grammar.specs.declared.repr.NonterminalString.{NonterminalString}
 use Rattle.lalrpop_grammar.specs.declared.repr.TerminalString.{TerminalString}

@@ -1,7 +1,6 @@
 -- Tables, or the number of conflicts: the results if conflicts are counted, by either method, and
 -- under other numbers.
-use Rattle.std.proofs.Common.{◌≡◌, ◌≢◌, ℕ, ◌<◌, List, [], length, refl, sym, ◌∙◌, ap, subst, arith}
-use Rattle.std.specs.List.{flat_map}
+use Rattle.std.proofs.Common.{◌≡◌, ℕ, List}
 use Rattle.lalrpop_base.specs.Words.{Bits, IsLALR1, IsOnNoRightSide, productions, rules_of}
 use Rattle.lalrpop_tables.proofs.Types.{Grammar, NonterminalString, State}
 use Rattle.lalrpop_tables.specs.Words.{AreBuiltTablesOrCount}

@@ -9,7 +9,7 @@ use Rattle.lalrpop_traces.proofs.Types.{Production, StateIndex}
 use Rattle.lalrpop_grammar.specs.declared.repr.Symbol.TheVariants.{Nonterminal}
 use Rattle.lalrpop_state_graph.specs.Words.{state_cmp}
 use Rattle.lalrpop_collections.proofs.theory.lists.Members.{Contains-none, contains_head, contains_tail, contains-cons}
-use Rattle.lalrpop_traces.specs.Words.{Graph, PlainEdge, plain_edges, AddsInTurn, all_added, left_out, put_behind, ends_of, stop_edge, onward_edges, Duty, come_to}
+use Rattle.lalrpop_traces.specs.Words.{PlainEdge, AddsInTurn, all_added, left_out, put_behind, stop_edge, onward_edges, Duty, come_to}
 use Rattle.lalrpop_traces.specs.Words.{take_up, come_to_each, take_up_each, items_at, AreSources, Walks, ends, known, meets, passes, IsInOrder, Backtrace, Meeting, GoesOn, own_edge}
 use Rattle.lalrpop_traces.specs.traces.TraceOrder.{stops, goes_on}
 use Rattle.lalrpop_states.proofs.theory.grammars.AscendingItems.{less_number_at}
@@ -177,13 +177,3 @@ module _ (b : Backtrace) where
         let P : List StateIndex → Type 0 = λ ss. Walks b met (come_to_each item.production ss ++ duties) g.later in
         is ∙ ap (λ (es : List PlainEdge). onward_edges b.traced m.1 item ++ es) (walks_one g.later v (subst P (sources_one item.production item.index m.0 g.sources sources g.are are) g.walk)) ∙ sym g.is
   ]
-
-  -- two graphs that are in order have the same edges and the same nodes
-  pub one_order : (x y : Graph) → IsInOrder b x → IsInOrder b y → (plain_edges x ≡ plain_edges y) × (x.nodes ≡ y.nodes)
-  one_order x y i j =
-      let P : List StateIndex → Type 0 = λ ss. Walks b [] (come_to_each b.item.production ss) j.given in
-      let given : j.given ≡ i.given = sym (walks_one j.given i.walk (subst P (sources_one b.item.production b.item.index b.state j.sources i.sources j.begins i.begins) j.walk)) in
-      let first = own_edge b.item.production b.item.index in
-      let Q : List PlainEdge → Type 0 = λ es. AddsInTurn [] (first ∷ es) (plain_edges y) in
-      let R : List PlainEdge → Type 0 = λ es. AddsInTurn [] (ends_of (first ∷ es)) y.nodes in
-      (turn_one (plain_edges y) i.edges (subst Q given j.edges), turn_one y.nodes i.nodes (subst R given j.nodes))

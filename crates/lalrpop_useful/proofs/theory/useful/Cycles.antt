@@ -153,9 +153,6 @@ module _ (g : List Production) where
       (λ k h. same_nonterminal (same_some (sym at ∙ h.0)))
       a b v
 
-  pub At-none : (l : List Symbol) (n : ℕ) (walk : Names) → ((b : NonterminalString) → IsAloneAt g l n b → ⊥) → Visits (IsAloneAt g l n) walk walk
-  At-none l n walk none = Visits-none (IsAloneAt g l n) walk none
-
   -- productions
   pub Alone-none : (walk : Names) → Visits (IsAloneOn g []) walk walk
   Alone-none walk = Visits-none (IsAloneOn g []) walk (λ b h. Contains-none h.0 h.1)

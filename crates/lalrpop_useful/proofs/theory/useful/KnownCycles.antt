@@ -73,9 +73,6 @@ module _ (g : Grammar) (well : IsWellFormed g) where
       | inr e ↦ subst (Contains n.cyclic.keys) e (here (subst (IsCyclic Rules) (sym e) cyclic))
     ]
 
-    added_sound : IsAdded a k.cyclic.keys n.cyclic.keys → IsCyclic Rules a → (b : NonterminalString) → Contains n.cyclic.keys b → IsCyclic Rules b
-    added_sound added cyclic b c = elim (added.from b c) [ inl o ↦ h.sound b o | inr e ↦ subst (IsCyclic Rules) e cyclic ]
-
     -- ---- a nonterminal that leads to itself and to settled ones
     module _ (next : Names) (is_next : IsNext g a next) where
       settled_closed : AreSettledBut a next k.settled.keys → IsAdded a k.settled.keys n.settled.keys → (b c : NonterminalString) → Contains n.settled.keys b → Leads b c → Contains n.settled.keys c

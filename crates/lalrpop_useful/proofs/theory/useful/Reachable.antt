@@ -1,5 +1,5 @@
 -- Reachable nonterminals: a walk from the start symbol over right sides goes to each of them, and to no others.
-use Rattle.std.proofs.Common.{◌≡◌, ◌+◌, ◌-◌, ◌<◌, ◌⊎◌, inl, inr, List, [], ◌∷◌, ◌++◌, length, refl, sym, subst, ap, ◌∙◌}
+use Rattle.std.proofs.Common.{◌≡◌, ◌+◌, ◌-◌, ◌<◌, ◌⊎◌, inl, inr, List, [], ◌∷◌, ◌++◌, length, sym, subst, ap, ◌∙◌}
 use Rattle.std.specs.Prelude.{Contains, ◌↔◌}
 use Rattle.std.specs.List.{flat_map}
 use Rattle.std.proofs.lemmas.List.Elements.{Contains-append_left, Contains-append_right, Contains-append_cases, Contains-push, Contains-push_cases}
@@ -20,24 +20,10 @@ abbrev pub Names : Type 0
 Names = Walk NonterminalString
 
 -- ---- names that a walk goes to
--- one that was visited before
-pub Visits-visited : (name : NonterminalString) (walk : Names) → Contains walk.visited.keys name → Visits (λ a. name ≡ a) walk walk
-Visits-visited name walk there = record {
-  kept = λ k c. c;
-  there = λ k e. subst (Contains walk.visited.keys) e there;
-  only = λ k c. inl c;
-  stays = λ k c. c;
-  waits = λ k c. inl c;
-  differ = λ d. d;
-  weighed = refl;
-}
 
 -- that of a symbol
 pub Symbol-name : (name : NonterminalString) (symbol : Symbol) (a b : Names) → symbol ≡ Nonterminal name → Visits (λ k. name ≡ k) a b → Visits (λ k. symbol ≡ Nonterminal k) a b
 Symbol-name name symbol a b is v = Visits-same (λ k. name ≡ k) (λ k. symbol ≡ Nonterminal k) (λ k e. is ∙ ap Nonterminal e) (λ k e. same_nonterminal (sym is ∙ e)) a b v
-
-pub Symbol-none : (symbol : Symbol) (walk : Names) → ((a : NonterminalString) → symbol ≡ Nonterminal a → ⊥) → Visits (λ k. symbol ≡ Nonterminal k) walk walk
-Symbol-none symbol walk none = Visits-none (λ k. symbol ≡ Nonterminal k) walk none
 
 -- those of a list of symbols, one more
 abbrev AreIn : List Symbol → NonterminalString → Type 0

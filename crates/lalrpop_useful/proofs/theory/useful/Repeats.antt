@@ -1,18 +1,17 @@
 -- Productions that repeat a right side: one place and one nonterminal more.
-use Rattle.std.proofs.Common.{◌≡◌, ℕ, zero, suc, ◌+◌, ◌<◌, ◌≤◌, ◌⊎◌, inl, inr, List, [], ◌∷◌, ◌++◌, length, refl, sym, subst, ap, ◌∙◌, arith, Option, Some, None}
-use Rattle.std.specs.Prelude.{Contains, slice_get, ◌↔◌}
+use Rattle.std.proofs.Common.{◌≡◌, ℕ, zero, suc, ◌+◌, ◌<◌, ◌≤◌, ◌⊎◌, inl, inr, List, [], ◌∷◌, length, refl, sym, subst, ap, arith, Option, Some, None}
+use Rattle.std.specs.Prelude.{Contains, ◌↔◌}
 use Rattle.std.specs.BTreeMap.{is_at, get, IsOrdered}
 use Rattle.std.specs.Map.{lookup}
 use Rattle.std.proofs.lemmas.Map.Entries.{place_from_lookup, btree_map_get_place}
 use Rattle.std.proofs.lemmas.Option.{slice_get_within}
-use Rattle.std.proofs.lemmas.List.Elements.{Contains-append_left, Contains-push, Contains-push_cases}
-use Rattle.lalrpop_collections.proofs.theory.lists.Lists.{contains_place, place_contains, same_some, some≢none}
+use Rattle.lalrpop_collections.proofs.theory.lists.Lists.{contains_place, place_contains, some≢none}
 use Rattle.lalrpop_collections.proofs.theory.lists.Members.{Contains-none, contains_head, contains_tail, contains-cons}
 use Rattle.lalrpop_grammar.specs.Words.{name_cmp, listed_productions}
 use Rattle.lalrpop_grammar.proofs.theory.first.FirstNames.{name_total}
 use Rattle.lalrpop_grammar.proofs.theory.grammars.NewStart.{below}
 use Rattle.lalrpop_useful.proofs.Types.{Grammar, NonterminalData, NonterminalString, Production, Symbol}
-use Rattle.lalrpop_useful.specs.Words.{AddsRepeats, IsFirstWith, IsRepeat, NoneBelow, RepeatsAt, RepeatsBelow}
+use Rattle.lalrpop_useful.specs.Words.{AddsRepeats, IsFirstWith, IsRepeat, RepeatsAt, RepeatsBelow}
 
 abbrev Pair : Type 0
 Pair = Production × Production
@@ -74,30 +73,6 @@ module _ (ps : List Production) where
       apart zero (suc j) = inl (omega arith)
       apart (suc i) zero = inr (inl (omega arith))
       apart (suc i) (suc j) = elim (apart i j) [ inl l ↦ inl (omega (arith, l)) | inr r ↦ elim r [ inl l ↦ inr (inl (omega (arith, l))) | inr e ↦ inr (inr (ap suc e)) ] ]
-
-  pub Place-repeats : (place earlier : ℕ) (later first : Production) (pairs : List Pair) → slice_get ps place ≡ Some later → slice_get ps earlier ≡ Some first → earlier < place → (p : Production) × IsFirstWith ps later.symbols earlier p → AddsRepeats (RepeatsAt ps place) pairs (pairs ++ (later, first) ∷ [])
-  Place-repeats place earlier later first pairs at_later at_first less found q p =
-      let is : IsFirstWith ps later.symbols earlier first = subst (IsFirstWith ps later.symbols earlier) (same_some (sym found.1.there ∙ at_first)) found.1 in (
-        λ c. elim (Contains-push_cases pairs (later, first) (q, p) c) [
-          | inl o ↦ inl o
-          | inr e ↦ inr (subst (λ (x : Pair). RepeatsAt ps place x.0 x.1) e (record { there = at_later; earlier = earlier; before = less; at = is }))
-        ],
-        λ h. elim h [
-          | inl o ↦ Contains-append_left pairs ((later, first) ∷ []) (q, p) o
-          | inr r ↦
-              let same_later : later ≡ q = same_some (sym at_later ∙ r.there) in
-              let other : IsFirstWith ps later.symbols r.earlier p = subst (λ (x : Production). IsFirstWith ps x.symbols r.earlier p) (sym same_later) r.at in
-              let places : earlier ≡ r.earlier = same_first later.symbols earlier r.earlier first p is other in
-              let same_pair : first ≡ p = same_some (sym at_first ∙ ap (slice_get ps) places ∙ other.there) in
-              subst (Contains (pairs ++ (later, first) ∷ [])) (ap (λ (x : Production). (x, first)) same_later ∙ ap (λ (x : Production). (q, x)) same_pair) (Contains-push pairs (later, first))
-        ],
-      )
-
-  pub Place-not : (place : ℕ) (later : Production) (pairs : List Pair) → slice_get ps place ≡ Some later → NoneBelow ps later.symbols place → AddsRepeats (RepeatsAt ps place) pairs pairs
-  Place-not place later pairs at none =
-      Repeats-none (RepeatsAt ps place) pairs (λ q p r.
-      let same : later ≡ q = same_some (sym at ∙ r.there) in
-      none r.earlier p r.before r.at.there (r.at.same ∙ sym (ap (λ (x : Production). x.symbols) same)))
 
 -- ---- nonterminals
 abbrev Entry : Type 0

@@ -50,15 +50,6 @@ module _ (g : List Production) (p : Production) where
     differ = λ d. d;
   }
 
-  -- one that adds nothing
-  pub Adds-not : (symbol : Symbol) (uses : List Use) → ((a : NonterminalString) → symbol ≡ Nonterminal a → (HasProduction g a → ⊥) → Contains (names_of uses) a) → AddsUndefined g p (symbol ∷ []) uses uses
-  Adds-not symbol uses listed = record {
-    kept = λ u c. c;
-    from = λ u c. inl c;
-    all = λ a none c. elim (contains-cons symbol [] (Nonterminal a) c) [ inl e ↦ listed a e none | inr n ↦ absurd (Contains-none (Nonterminal a) n) ];
-    differ = λ d. d;
-  }
-
   -- one that adds a use
   pub Adds-one : (symbol : Symbol) (a : NonterminalString) (uses : List Use) → symbol ≡ Nonterminal a → (HasProduction g a → ⊥) → (Contains (names_of uses) a → ⊥) → AddsUndefined g p (symbol ∷ []) uses (uses ++ (a, p) ∷ [])
   Adds-one symbol a uses is none new = record {

@@ -53,13 +53,6 @@ module _ (old new : UserMap) (name user key value : NonterminalString) (same : k
     kept = kept;
   }
 
--- a symbol that is none
-pub User-not : (user : NonterminalString) (symbol : Symbol) (users : UserMap) → ((a : NonterminalString) → symbol ≡ Nonterminal a → ⊥) → AddsUser user (symbol ∷ []) users users
-User-not user symbol users none = record {
-  added = λ a c. elim (contains-cons symbol [] (Nonterminal a) c) [ inl e ↦ absurd (none a e) | inr n ↦ absurd (Contains-none (Nonterminal a) n) ];
-  kept = λ a b c. c;
-}
-
 pub User-none : (user : NonterminalString) (users : UserMap) → AddsUser user [] users users
 User-none user users = record { added = λ a c. absurd (Contains-none (Nonterminal a) c); kept = λ a b c. c }
 

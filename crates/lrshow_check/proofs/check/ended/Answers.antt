@@ -1,4 +1,4 @@
-use Rattle.std.proofs.Common.{List, [], ap, inl, map, subst, sym}
+use Rattle.std.proofs.Common.{List, [], ap, inl, map, subst}
 use Rattle.lrshow_check.specs.Findings.{Finding, finding_view, findings_output, findings_status}
 use Rattle.lrshow_check.specs.Output.{IsOutput}
 use Rattle.lrshow_check.proofs.check.ended.Goals as goal

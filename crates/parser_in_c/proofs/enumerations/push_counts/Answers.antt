@@ -1,4 +1,4 @@
-use Rattle.std.proofs.Common.{ℕ, List, ◌++◌, codes, string_bytes, vec_len}
+use Rattle.std.proofs.Common.{◌++◌, codes, string_bytes, vec_len}
 use Rattle.std.specs.Fmt.{decimal}
 use Rattle.file_parts.specs.Fixed.{fixed_text}
 use Rattle.file_parts.proofs.Joins.{fixed_same, of_same, then_more}

@@ -1,4 +1,4 @@
-use Rattle.std.proofs.Common.{ℕ, List, ◌++◌, codes, string_bytes}
+use Rattle.std.proofs.Common.{◌++◌, codes, string_bytes}
 use Rattle.file_parts.proofs.Joins.{of_same, then_more}
 use Rattle.parser_in_c.specs.Enumerations.{counts_text, enumeration_text, literals_text}
 use Rattle.parser_in_c.proofs.file.push_constants.Goals as goal

@@ -1,4 +1,4 @@
-use Rattle.std.proofs.Common.{ℕ, List, ◌++◌, codes, string_bytes}
+use Rattle.std.proofs.Common.{◌++◌, codes, string_bytes}
 use Rattle.file_parts.proofs.Joins.{of_same, then_more}
 use Rattle.parser_in_rust.specs.Enumerations.{enumeration_text}
 use Rattle.parser_in_rust.specs.Lists.{literals_text, members_text}

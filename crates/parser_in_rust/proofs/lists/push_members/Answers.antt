@@ -1,4 +1,4 @@
-use Rattle.std.proofs.Common.{ℕ, List, ◌++◌, codes, length, string_bytes}
+use Rattle.std.proofs.Common.{◌++◌, codes, length, string_bytes}
 use Rattle.std.specs.List.{flat_map}
 use Rattle.file_parts.proofs.Joins.{then_more}
 use Rattle.parser_in_rust.specs.Lists.{list_head, member_line}

@@ -1,8 +1,8 @@
-use Rattle.std.proofs.Common.{◌≡◌, ◌∙◌, ◌⊎◌, ◌<◌, ℕ, Bool, subst, sym, length, List, [], Some, true, ⊎_elim, ap, arith}
+use Rattle.std.proofs.Common.{◌≡◌, ◌∙◌, ◌⊎◌, ℕ, Bool, subst, sym, length, List, [], Some, true, ⊎_elim, ap, arith}
 use Rattle.lalrpop_collections.proofs.theory.lists.Places.{slice_get_at}
 use Rattle.std.specs.Prelude.{slice_get}
 use Rattle.std.specs.List.{Contains}
-use Rattle.lalrpop_check.specs.check.ByNumber.{AreFoundMarked, IsReachedByNumber, MarksTarget, MarksTargets, at_first}
+use Rattle.lalrpop_check.specs.check.ByNumber.{IsReachedByNumber, MarksTargets, at_first}
 use Rattle.lalrpop_construction.specs.declared.construction.numbered_state.NumberedState.{NumberedState}
 use Rattle.lalrpop_check.proofs.theory.check.NumberedSteps.{Marks-counted, Marks-none, Reached-more}
 use Rattle.lalrpop_check.proofs.check.by_number.reached.are_reached.Goals as goal

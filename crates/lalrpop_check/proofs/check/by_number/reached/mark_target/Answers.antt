@@ -1,4 +1,4 @@
-use Rattle.std.proofs.Common.{◌≡◌, ◌<◌, length, arith, refl}
+use Rattle.std.proofs.Common.{◌<◌, length, arith, refl}
 use Rattle.lalrpop_check.proofs.theory.check.NumberedSteps.{Target-marked, Target-none}
 use Rattle.lalrpop_check.proofs.check.by_number.reached.mark_target.Goals as goal
 
