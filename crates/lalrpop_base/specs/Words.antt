@@ -34,12 +34,8 @@ pub use Rattle.lalrpop_states.specs.construction.Transitions.{AddsKernels}
 pub use Rattle.lalrpop_states.specs.construction.Transitions.{AreEdges, AreMoves, Groups, HasNoGroup, IsBehind, IsBehindOne, IsMoveAdded}
 pub use Rattle.lalrpop_states.specs.construction.Transitions.{AreEdgesListed, AreTransitions, Entries, HasEntry, IsEntryAdded, GroupLeadsTo, edge_entries, list_entries}
 pub use Rattle.lalrpop_states.specs.construction.Transitions.{Shifts, ShiftsAscend, reductions_of, seen_reduction, shifted}
-pub use Rattle.lalrpop_grammar.specs.first.First.{AreFirstSetsOf, IsFirstSet, IsFirstSetBefore}
-pub use Rattle.lalrpop_grammar.specs.first.FirstNumbers.{AreReady, GivesByNumber, HasBitsBelow, IsNumberedProduction, IsNumberedSymbol, IsReady, numbered_names, place, set_at}
+pub use Rattle.lalrpop_grammar.specs.first.First.{IsFirstSet, IsFirstSetBefore}
 pub use Rattle.lalrpop_grammar.specs.first.FirstSets.{AreFirstSets, FirstBy, NullableBy}
-pub use Rattle.lalrpop_grammar.specs.first.FirstTables.{IsFixpoint, IsRight, IsSetJoined, Table, is_in, first_set_of}
-pub use Rattle.lalrpop_grammar.specs.first.FirstTurns.{IsProductionAdded, Enqueues, IsTurn}
-pub use Rattle.lalrpop_grammar.specs.first.FirstUses.{AddsUses, AreUses, uses_at}
 pub use Rattle.lalrpop_states.specs.grammars.Ascending.{Ascend, Precedes, production_order}
 pub use Rattle.lalrpop_grammar.specs.grammars.Augmented.{IsAugmented}
 pub use Rattle.lalrpop_grammar.specs.grammars.ExactNames.{name_exact, same_production}
@@ -64,7 +60,7 @@ pub use Rattle.lalrpop_collections.specs.lists.Multimaps.{AreSame, IsCollectionO
 pub use Rattle.lalrpop_collections.specs.lists.Partitions.{ArePlaces, fails, new_place, parted, parted_place, rank}
 pub use Rattle.lalrpop_collections.specs.lists.Places.{AllDiffer, DifferBelow, IsFirstRepeat}
 pub use Rattle.lalrpop_collections.specs.lists.Queues.{HasWaitingMarks, Waiting, waits}
-pub use Rattle.lalrpop_collections.specs.lists.Spreading.{HoldsBit, IsSpread, edge_ends, held, sent_on}
+pub use Rattle.lalrpop_collections.specs.lists.Spreading.{HoldsBit, IsSpread, edge_ends, held, sent_on, set_at}
 pub use Rattle.lalrpop_collections.specs.lists.Ties.{Ties}
 pub use Rattle.lalrpop_collections.specs.lists.Walks.{AllWait, Visits}
 pub use Rattle.lalrpop_numbers.specs.numbers.Numbering.{AddsStart, AddsThose, AreAllExpansions, AreEmpty, AreNumbersBehind, IsNumberOf, IsStartFrom, IsStartOf}

@@ -3,5 +3,6 @@ pub mod closures
 pub mod conflicts
 pub mod first
 pub mod grammars
+pub mod lists
 pub mod runs
 pub mod states

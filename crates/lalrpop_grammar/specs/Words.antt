@@ -7,12 +7,11 @@ pub use Rattle.lalrpop_grammar.specs.conflicts.ConflictLists.{IsReduceConflict, 
 pub use Rattle.lalrpop_grammar.specs.conflicts.ConflictLists.{no_later, no_more, no_reductions, no_shifts, reduce_first, shares_none, shift_first, with_later}
 pub use Rattle.lalrpop_grammar.specs.conflicts.Conflicts.{ActionPrecedes, AreCanonicalConflicts, AreConflicts, AreConflictsOf, ConflictContents, HasNoCanonicalConflict}
 pub use Rattle.lalrpop_grammar.specs.conflicts.Conflicts.{IsConflict, IsInConflict, IsLess, IsOrder, ReducesInOrder, StandsBefore}
-pub use Rattle.lalrpop_grammar.specs.first.First.{AreFirstSetsOf, IsFirstSet, IsFirstSetBefore}
-pub use Rattle.lalrpop_grammar.specs.first.FirstNumbers.{AreReady, GivesByNumber, HasBitsBelow, IsNumberedProduction, IsNumberedSymbol, IsReady, numbered_names, place, set_at}
+pub use Rattle.lalrpop_grammar.specs.first.First.{HoldFirstSets, IsFirstJoined, IsFirstOfName, IsFirstSet, IsFirstSetBefore}
+pub use Rattle.lalrpop_grammar.specs.first.FirstGraphs.{BeginsWithName, BeginsWithTerminal, IsAdded, IsFlagged, IsGraph, IsSized}
+pub use Rattle.lalrpop_grammar.specs.first.FirstNumbers.{place}
+pub use Rattle.lalrpop_grammar.specs.first.FirstRests.{AreRests, IsListedOrPending, IsPassed, IsReleased, Pending, Rest, listed_rest, pending_at, pending_rests, pending_with, right_side}
 pub use Rattle.lalrpop_grammar.specs.first.FirstSets.{AreFirstSets, FirstBy, NullableBy}
-pub use Rattle.lalrpop_grammar.specs.first.FirstTables.{IsFixpoint, IsRight, IsSetJoined, Table, is_in, first_set_of}
-pub use Rattle.lalrpop_grammar.specs.first.FirstTurns.{IsProductionAdded, Enqueues, IsTurn}
-pub use Rattle.lalrpop_grammar.specs.first.FirstUses.{AddsUses, AreUses, uses_at}
 pub use Rattle.lalrpop_grammar.specs.grammars.Augmented.{IsAugmented}
 pub use Rattle.lalrpop_grammar.specs.grammars.ExactNames.{name_exact, same_production}
 pub use Rattle.lalrpop_grammar.specs.grammars.Grammar.{Derives, IsBeginning, IsFirst, IsNullable, IsOnNoRightSide, IsSentence, as_it_is, replace, terminal_symbols}

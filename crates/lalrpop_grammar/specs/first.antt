@@ -1,7 +1,6 @@
 -- FIRST sets, and the steps that compute them.
 pub mod First
+pub mod FirstGraphs
 pub mod FirstNumbers
+pub mod FirstRests
 pub mod FirstSets
-pub mod FirstTables
-pub mod FirstTurns
-pub mod FirstUses

@@ -12,7 +12,7 @@ use Rattle.lalrpop_grammar.specs.declared.repr.TerminalString.TheVariants.{Bare,
 use Rattle.lalrpop_grammar.specs.states.States.{Reduction}
 use Rattle.lalrpop_grammar.specs.Words.{AreFaithful, Configuration, Contents, Goes, HasOutcome, InClosure, IsAtStart, IsBehindDot, IsMoved, IsOnNoRightSide, LeadsOverDots, Limit, Node, Reaches, ReducesFinished, Stands, Tree, cut_off, expanded, further, here, in_kernel, items_of, leads, move, no_trees}
 use Rattle.lalrpop_collections.proofs.theory.lists.Lists.{contains-cons, contains-nil, some≢none}
-use Rattle.lalrpop_grammar.proofs.theory.first.FirstUses.{only_one}
+use Rattle.lalrpop_grammar.proofs.theory.lists.ListEnds.{only_one}
 use Rattle.lalrpop_grammar.proofs.theory.grammars.SymbolLists.{same_nonterminal}
 use Rattle.lalrpop_grammar.proofs.theory.runs.Steps.{IsGoing}
 use Rattle.lr1_theory.proofs.theory.closures.Closures.{checked_faithful}

@@ -1,10 +1,8 @@
 -- FIRST sets, and the steps that compute them.
-pub mod FirstFixpoint
+pub mod FirstGraphs
+pub mod FirstLists
 pub mod FirstMeaning
 pub mod FirstNames
 pub mod FirstNumbers
-pub mod FirstQueues
+pub mod FirstRests
 pub mod FirstSets
-pub mod FirstTables
-pub mod FirstTurns
-pub mod FirstUses

@@ -1,136 +1,64 @@
--- Names by their places, and the bits that sets by number give.
-use Rattle.std.proofs.Common.{◌≡◌, ℕ, suc, ◌+◌, ◌<◌, inl, inr, List, [], ◌∷◌, ◌++◌, length, refl, sym, ap, ◌∙◌, arith, Option, Some, None, Bool, true, false, cond, unwrap_or, get_or, take, length-append}
-use Rattle.std.specs.Prelude.{slice_get}
-use Rattle.std.specs.List.{AllZip, zip}
+-- Names by their places.
+use Rattle.std.proofs.Common.{◌≡◌, ℕ, ◌<◌, ◌≤◌, inl, inr, List, length, sym, ap, subst, ◌∙◌, arith, Some, true, false, not, get_or}
+use Rattle.std.specs.Prelude.{slice_get, Contains}
+use Rattle.std.specs.Ordering.{is_eq, ordering_reverse}
 use Rattle.std.specs.List.Sorted.{IsStrictlySortedBy}
-use Rattle.std.specs.BTreeMap.{is_at, insert_entry}
-use Rattle.std.specs.Map.{lookup, keys_of}
-use Rattle.std.proofs.lemmas.List.{append_assoc, take_more}
-use Rattle.lalrpop_grammar.proofs.Types.{NonterminalString, Symbol, TerminalString}
-use Rattle.lalrpop_grammar.specs.declared.repr.Symbol.TheVariants.{Nonterminal, Terminal}
-use Rattle.lalrpop_grammar.specs.declared.first.numbered.NumberedSymbol.{NumberedSymbol}
-use Rattle.lalrpop_grammar.specs.declared.first.numbered.NumberedSymbol.TheVariants.{Bit, Name}
-use Rattle.lalrpop_collections.specs.Words.{Bits, has, no_bits}
-use Rattle.lalrpop_grammar.specs.Words.{name_cmp, Table, first_set_of, is_in, place, numbered_names, IsNumberedSymbol, GivesByNumber, set_at}
-use Rattle.lalrpop_grammar.specs.first.FirstTables.{IsFirstBit}
-use Rattle.lalrpop_grammar.proofs.theory.first.FirstNames.{name_same, copied, insert_last}
-use Rattle.lalrpop_collections.proofs.theory.lists.Lists.{same_some}
+use Rattle.std.specs.BTreeMap.{is_at}
+use Rattle.std.specs.Map.{keys_of}
+use Rattle.std.proofs.lemmas.Bool.{false≢true, cases_Bool, cases_lt}
+use Rattle.std.proofs.lemmas.List.Sums.{position_or_len_is, passes_at_first, fails_before_first, prefix_len-le-length}
+use Rattle.std.proofs.lemmas.Map.Keys.{Less-from_sorted}
+use Rattle.std.proofs.lemmas.Option.{slice_get_within, get_or_from_slice_get}
+use Rattle.lalrpop_grammar.proofs.Types.{Grammar, NonterminalData, NonterminalString, Production}
+use Rattle.lalrpop_grammar.specs.Words.{name_cmp, productions, IsWellFormed, HasKnownTerminals, place}
+use Rattle.lalrpop_grammar.proofs.theory.first.FirstNames.{name_same, name_self, name_total}
+use Rattle.lalrpop_collections.proofs.theory.lists.Lists.{contains_map, contains_place}
+use Rattle.lalrpop_collections.proofs.theory.lists.Members.{of_flat}
 
--- ---- the map of the numbers
-keys_numbered : (n : ℕ) (names : List NonterminalString) → keys_of (numbered_names n names) ≡ names
-keys_numbered n [] = refl
-keys_numbered n (a ∷ names) = ap (λ ks. a ∷ ks) (keys_numbered (suc n) names)
+-- the place of a name in ordered names
+pub place_at : (names : List NonterminalString) → IsStrictlySortedBy name_cmp names → (k : ℕ) (a : NonterminalString) → slice_get names k ≡ Some a → k ≡ place names a
+place_at names sorted k a at =
+    let within : k < length names = slice_get_within names k a at in
+    let is : get_or names k a ≡ a = get_or_from_slice_get names k a a at in
+    sym (position_or_len_is (is_at (name_cmp a)) names k a (omega arith)
+    (λ j l. ap is_eq (ap (λ (b : NonterminalString). name_cmp b (get_or names j a)) (sym is) ∙ name_total.antisymm (get_or names k a) (get_or names j a) ∙ ap ordering_reverse (Less-from_sorted name_cmp names j k a sorted l within)))
+    (λ l. ap (λ (b : NonterminalString). is_at (name_cmp a) b) is ∙ name_self a))
 
--- one more name, which is put at the end
-pub Numbers-more : (whole : List NonterminalString) (es new : List (NonterminalString × ℕ)) (a : NonterminalString) (rest : List NonterminalString) (n : ℕ) → IsStrictlySortedBy name_cmp whole → n ≡ length es → es ++ numbered_names n (a ∷ rest) ≡ numbered_names 0 whole
-    → new ≡ insert_entry name_cmp es a n → new ++ numbered_names (length new) rest ≡ numbered_names 0 whole
-Numbers-more whole es new a rest n up long so_far is =
-    let sorted : IsStrictlySortedBy name_cmp (keys_of (es ++ (a, n) ∷ numbered_names (suc n) rest)) = rw (so_far, keys_numbered) up in
-    let last : new ≡ es ++ (a, n) ∷ [] = is ∙ insert_last es a n (numbered_names (suc n) rest) sorted in
-    let longer : length new ≡ suc n = ap length last ∙ length-append es ((a, n) ∷ []) ∙ omega arith in
-    ap (λ k. new ++ numbered_names k rest) longer ∙ ap (λ (xs : List (NonterminalString × ℕ)). xs ++ numbered_names (suc n) rest) last ∙ append_assoc es ((a, n) ∷ []) (numbered_names (suc n) rest) ∙ so_far
-
-pub Numbers-all : (whole : List NonterminalString) (es : List (NonterminalString × ℕ)) → es ≡ numbered_names 0 whole → (es ≡ numbered_names 0 (keys_of es)) × (keys_of es ≡ whole)
-Numbers-all whole es is =
-    let keys : keys_of es ≡ whole = ap keys_of is ∙ keys_numbered 0 whole in
-    (is ∙ ap (numbered_names 0) (sym keys), keys)
-
--- ---- places
-place_found : (names : List NonterminalString) (n k : ℕ) (a : NonterminalString) → lookup (is_at (name_cmp a)) (numbered_names n names) ≡ Some k → k ≡ n + place names a
-place_found [] n k a h = cc
-place_found (b ∷ names) n k a h = either (is_at (name_cmp a) b) (λ e. place_found names (suc n) k a e) h
-  where
-    either : (t : Bool) → (lookup (is_at (name_cmp a)) (numbered_names (suc n) names) ≡ Some k → k ≡ suc n + place names a) → cond t (Some n) (lookup (is_at (name_cmp a)) (numbered_names (suc n) names)) ≡ Some k → k ≡ n + cond t 0 (suc (place names a))
-    either true later e = let same : n ≡ k = ap (λ o. unwrap_or o n) e in omega arith
-    either false later e = let after : k ≡ suc n + place names a = later e in omega arith
-
-pub place_first : (names : List NonterminalString) (k : ℕ) (a : NonterminalString) → lookup (is_at (name_cmp a)) (numbered_names 0 names) ≡ Some k → k ≡ place names a
-place_first names k a h = let found : k ≡ 0 + place names a = place_found names 0 k a h in omega arith
-
-pub place_none : (names : List NonterminalString) (n : ℕ) (a : NonterminalString) → lookup (is_at (name_cmp a)) (numbered_names n names) ≡ None → place names a ≡ length names
-place_none [] n a h = refl
-place_none (b ∷ names) n a h = either (is_at (name_cmp a) b) (λ e. place_none names (suc n) a e) h
-  where
-    either : (t : Bool) → (lookup (is_at (name_cmp a)) (numbered_names (suc n) names) ≡ None → place names a ≡ length names) → cond t (Some n) (lookup (is_at (name_cmp a)) (numbered_names (suc n) names)) ≡ None → cond t 0 (suc (place names a)) ≡ suc (length names)
-    either true later e = cc
-    either false later e = ap suc (later e)
+-- a name that is none of the names
+pub place_none : (names : List NonterminalString) (a : NonterminalString) → ¬ Contains names a → length names ≡ place names a
+place_none names a none = sym (position_or_len_is (is_at (name_cmp a)) names (length names) a (omega arith)
+    (λ j l. elim (cases_Bool (is_at (name_cmp a) (get_or names j a))) [ inl t ↦ absurd (none (j, l, sym (name_same a (get_or names j a) t))) | inr f ↦ f ])
+    (λ l. absurd (omega arith)))
 
 -- a name is the only one at its place
 pub place_same : (names : List NonterminalString) (a b : NonterminalString) → place names a < length names → place names b ≡ place names a → a ≡ b
-place_same [] a b l e = absurd (omega arith)
-place_same (x ∷ names) a b l e = either (is_at (name_cmp a) x) (is_at (name_cmp b) x) (λ h k. place_same names a b h k) (name_same a x) (name_same b x) l e
-  where
-    either : (s t : Bool) → (place names a < length names → place names b ≡ place names a → a ≡ b) → (s ≡ true → a ≡ x) → (t ≡ true → b ≡ x) → cond s 0 (suc (place names a)) < suc (length names) → cond t 0 (suc (place names b)) ≡ cond s 0 (suc (place names a)) → a ≡ b
-    either true true later f g l e = f refl ∙ sym (g refl)
-    either true false later f g l e = absurd (omega arith)
-    either false true later f g l e = absurd (omega arith)
-    either false false later f g l e = later (omega arith) (omega arith)
+place_same names a b l e =
+    let there : is_at (name_cmp b) (get_or names (place names b) a) ≡ true = passes_at_first (is_at (name_cmp b)) names a (omega arith) in
+    name_same a (get_or names (place names a) a) (passes_at_first (is_at (name_cmp a)) names a l) ∙ ap (λ k. get_or names k a) (sym e) ∙ sym (name_same b (get_or names (place names b) a) there)
 
--- ---- sets under names
-pub first_set_of-zip : (names : List NonterminalString) (sets : List Bits) (a : NonterminalString) → length sets ≡ length names → first_set_of (zip names sets) a ≡ set_at sets (place names a)
-first_set_of-zip [] [] a e = refl
-first_set_of-zip [] (s ∷ sets) a e = absurd (omega arith)
-first_set_of-zip (b ∷ names) [] a e = absurd (omega arith)
-first_set_of-zip (b ∷ names) (s ∷ sets) a e = either (is_at (name_cmp a) b) (first_set_of-zip names sets a (omega arith))
-  where
-    either : (t : Bool) → first_set_of (zip names sets) a ≡ set_at sets (place names a) → unwrap_or (cond t (Some s) (lookup (is_at (name_cmp a)) (zip names sets))) no_bits ≡ set_at (s ∷ sets) (cond t 0 (suc (place names a)))
-    either true h = refl
-    either false h = h
+-- no place is above the number of the names
+pub place_most : (names : List NonterminalString) (a : NonterminalString) → place names a ≤ length names
+place_most names a = prefix_len-le-length (λ b. not (is_at (name_cmp a) b)) names
 
--- ---- sets by number give the same as their table does
-module _ (terminals : List TerminalString) (names : List NonterminalString) (sets : List Bits) (long : length sets ≡ length names) where
-  abbrev end : ℕ
-  end = length terminals
+-- the place of a name among the names is below their number
+place_within : (names : List NonterminalString) (a : NonterminalString) → Contains names a → place names a < length names
+place_within names a c = elim (cases_lt c.0 (place names a)) [
+  | inl before ↦ absurd (false≢true (sym (fails_before_first (is_at (name_cmp a)) names c.0 a before) ∙ ap (λ (b : NonterminalString). is_at (name_cmp a) b) c.2 ∙ name_self a))
+  | inr past ↦ let within : c.0 < length names = c.1 in omega arith
+]
 
-  has_zip : (a : NonterminalString) (n bit : ℕ) → n ≡ place names a → has (set_at sets n) bit ≡ is_in (zip names sets) a bit
-  has_zip a n bit e = ap (λ k. has (set_at sets k) bit) e ∙ sym (ap (λ s. has s bit) (first_set_of-zip names sets a long))
+-- the terminals of a production are known, and its name has a place
+pub record IsReady (g : Grammar) (p : Production) : Type 0 where
+  pub known : HasKnownTerminals g.terminals p.symbols
+  pub named : place (keys_of g.nonterminals.entries) p.nonterminal < length (keys_of g.nonterminals.entries)
 
-  pub by_number : (l : List Symbol) (ns : List NumberedSymbol) (bit : ℕ) → AllZip (IsNumberedSymbol terminals names) l ns → IsFirstBit terminals (zip names sets) l bit → GivesByNumber end sets ns bit
-  by_number [] [] bit z g = g
-  by_number [] (n ∷ ns) bit z g = absurd z
-  by_number (x ∷ l) [] bit z g = absurd z
-  by_number (Terminal t ∷ l) (Bit b ∷ ns) bit z g = (z.0 bit).0 g
-  by_number (Terminal t ∷ l) (Name n ∷ ns) bit z g = absurd z.0
-  by_number (Nonterminal a ∷ l) (Bit b ∷ ns) bit z g = absurd z.0
-  by_number (Nonterminal a ∷ l) (Name n ∷ ns) bit z (inl h) = inl (has_zip a n bit z.0 ∙ h.0, h.1)
-  by_number (Nonterminal a ∷ l) (Name n ∷ ns) bit z (inr h) = inr (has_zip a n end z.0 ∙ h.0, by_number l ns bit z.1 h.1)
-
-  pub by_name : (l : List Symbol) (ns : List NumberedSymbol) (bit : ℕ) → AllZip (IsNumberedSymbol terminals names) l ns → GivesByNumber end sets ns bit → IsFirstBit terminals (zip names sets) l bit
-  by_name [] [] bit z g = g
-  by_name [] (n ∷ ns) bit z g = absurd z
-  by_name (x ∷ l) [] bit z g = absurd z
-  by_name (Terminal t ∷ l) (Bit b ∷ ns) bit z g = (z.0 bit).1 g
-  by_name (Terminal t ∷ l) (Name n ∷ ns) bit z g = absurd z.0
-  by_name (Nonterminal a ∷ l) (Bit b ∷ ns) bit z g = absurd z.0
-  by_name (Nonterminal a ∷ l) (Name n ∷ ns) bit z (inl h) = inl (sym (has_zip a n bit z.0) ∙ h.0, h.1)
-  by_name (Nonterminal a ∷ l) (Name n ∷ ns) bit z (inr h) = inr (sym (has_zip a n end z.0) ∙ h.0, by_name l ns bit z.1 h.1)
-
--- ---- the table is made in order
-pub zip_none : (names : List NonterminalString) → zip {X = Bits} names [] ≡ []
-zip_none [] = refl
-zip_none (a ∷ names) = refl
-
-pub Table-more : (table new whole : Table) (a : NonterminalString) (set : Bits) (names rest : List NonterminalString) (sets more : List Bits) → IsStrictlySortedBy name_cmp (keys_of whole) → names ≡ a ∷ rest → sets ≡ set ∷ more → table ++ zip names sets ≡ whole → new ≡ insert_entry name_cmp table a set → new ++ zip rest more ≡ whole
-Table-more table new whole a set names rest sets more up e f so_far is =
-    copied table (zip rest more) whole new a set (sym (ap (λ (xs : List NonterminalString). table ++ zip xs (set ∷ more)) e) ∙ sym (ap (λ (xs : List Bits). table ++ zip names xs) f) ∙ so_far) up is
-
--- ---- numbered lists grow at the end
-module _ {X Y : Type 0} (R : X → Y → Type 0) where
-  pub AllZip-last : (xs : List X) (ys : List Y) (x : X) (y : Y) → AllZip R xs ys → R x y → AllZip R (xs ++ x ∷ []) (ys ++ y ∷ [])
-  AllZip-last [] [] x y z r = (r, tt)
-  AllZip-last [] (b ∷ ys) x y z r = absurd z
-  AllZip-last (a ∷ xs) [] x y z r = absurd z
-  AllZip-last (a ∷ xs) (b ∷ ys) x y z r = (z.0, AllZip-last xs ys x y z.1 r)
-
-  pub AllZip-more : (before xs : List X) (ys new : List Y) (i : ℕ) (x : X) (y : Y) → i < length xs → x ≡ get_or xs i x → new ≡ ys ++ y ∷ [] → AllZip R (before ++ take i xs) ys → R x y → AllZip R (before ++ take (i + 1) xs) new
-  AllZip-more before xs ys new i x y within is made z r =
-      let more : take (i + 1) xs ≡ take i xs ++ x ∷ [] = take_more xs i x within ∙ ap (λ (w : X). take i xs ++ w ∷ []) (sym is) in
-      rw (more, made, ← append_assoc) (AllZip-last (before ++ take i xs) ys x y z r)
-
--- the bit of a terminal
-pub Bit-numbered : (terminals : List TerminalString) (names : List NonterminalString) (x : Symbol) (n : NumberedSymbol) (t : TerminalString) (b : ℕ) (found : Option ℕ) → x ≡ Terminal t → n ≡ Bit b → found ≡ Some b → slice_get terminals b ≡ Some t → ((bit : ℕ) → slice_get terminals bit ≡ Some t → found ≡ Some bit) → IsNumberedSymbol terminals names x n
-Bit-numbered terminals names x n t b found e f is at only = rw (e, f) (λ bit. (λ g. same_some (sym (only bit g) ∙ is), λ same. ap (slice_get terminals) same ∙ at))
-
--- the number of a name
-pub Name-numbered : (terminals : List TerminalString) (names : List NonterminalString) (x : Symbol) (n : NumberedSymbol) (a : NonterminalString) (k : ℕ) → x ≡ Nonterminal a → n ≡ Name k → k ≡ place names a → IsNumberedSymbol terminals names x n
-Name-numbered terminals names x n a k e f is = rw (e, f) is
+pub Ready-all : (g : Grammar) → IsWellFormed g → (p : Production) → Contains (productions g) p → IsReady g p
+Ready-all g well p c =
+    let (e, in_grammar, in_entry) = of_flat (λ (e : NonterminalString × NonterminalData). e.1.productions.items) g.nonterminals.entries p c in
+    let (k, at) = contains_place g.nonterminals.entries e in_grammar in
+    let (j, there) = contains_place e.1.productions.items p in_entry in
+    let good = (well k e.0 e.1 at).each j p there in
+    record {
+      known = good.known;
+      named = place_within (keys_of g.nonterminals.entries) p.nonterminal (subst (λ (a : NonterminalString). Contains (keys_of g.nonterminals.entries) a) (sym good.named) (contains_map (λ (e : NonterminalString × NonterminalData). e.0) g.nonterminals.entries e in_grammar));
+    }

@@ -16,7 +16,7 @@ use Rattle.lalrpop_collections.proofs.theory.lists.Lists.{contains-nil, contains
 use Rattle.lalrpop_grammar.proofs.theory.grammars.SymbolLists.{not_both}
 use Rattle.lr1_theory.proofs.theory.closures.Closures.{checked_faithful}
 use Rattle.lr1_theory.proofs.theory.instances.Rows.{one_repeats}
-use Rattle.lalrpop_grammar.proofs.theory.first.FirstUses.{only_one}
+use Rattle.lalrpop_grammar.proofs.theory.lists.ListEnds.{only_one}
 
 -- the names, the production and the grammar
 abbrev pub S : NonterminalString

@@ -19,7 +19,7 @@ use Rattle.lr1_theory.proofs.theory.states.Lr0.{closed_lr0}
 use Rattle.lr1_theory.proofs.theory.lanes.Lanes.{lane_tokens}
 use Rattle.lr1_theory.proofs.theory.collapse.LalrStates.{faithful_lalr}
 use Rattle.lr1_theory.proofs.theory.instances.Instance.{S, x, P, g, is_x, at_eof, reduction, states, leads_is, closed, alone, reductions, no_nonterminal, faithful}
-use Rattle.lalrpop_grammar.proofs.theory.first.FirstUses.{only_one}
+use Rattle.lalrpop_grammar.proofs.theory.lists.ListEnds.{only_one}
 
 -- whether both of two tests are true
 abbrev pub both : Bool → Bool → Bool

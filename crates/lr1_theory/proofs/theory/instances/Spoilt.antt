@@ -9,7 +9,7 @@ use Rattle.lalrpop_grammar.specs.Words.{starts, shifts, ValidToken, at_start, ke
 use Rattle.lalrpop_grammar.specs.states.States.{Reduction}
 use Rattle.lalrpop_collections.proofs.theory.lists.Lists.{contains-nil, contains_head, same_some}
 use Rattle.lr1_theory.proofs.theory.instances.Instance.{S, x, P, g, only, reduction, states}
-use Rattle.lalrpop_grammar.proofs.theory.first.FirstUses.{only_one}
+use Rattle.lalrpop_grammar.proofs.theory.lists.ListEnds.{only_one}
 
 -- the states with another state 1
 abbrev pub with_state : Contents → ℕ → Contents

@@ -1,20 +1,22 @@
-use Rattle.std.proofs.Common.{◌≡◌, Some, None, length, rules, sym, ◌∙◌, ap}
-use Rattle.std.specs.BTreeMap.{is_at}
-use Rattle.std.specs.Map.{lookup, keys_of}
-use Rattle.std.proofs.lemmas.Map.Entries.{length-keys_of}
-use Rattle.lalrpop_grammar.specs.Words.{name_cmp, numbered_names}
-use Rattle.lalrpop_grammar.proofs.theory.first.FirstNumbers.{place_first, place_none}
+use Rattle.std.proofs.Common.{◌≡◌, ◌≤◌, ◌∙◌, length, subst, sym, rules}
+use Rattle.lalrpop_collections.proofs.theory.lists.Halving.{halving_found, halving_none}
+use Rattle.lalrpop_grammar.specs.Words.{place}
+use Rattle.lalrpop_grammar.proofs.theory.grammars.NameOrders.{name_exact, name_order, name_total}
+use Rattle.lalrpop_grammar.proofs.theory.first.FirstNumbers.{place_at, place_none, place_most}
 use Rattle.lalrpop_grammar.proofs.first.names.Names.number.Goals as goal
 
-pub returns-in-Some : goal.returns-in-Some
-returns-in-Some c =
-    let found : lookup (is_at (name_cmp c.args.name.now)) c.self.inside.numbers.entries ≡ Some c.in-Some.number.now = sym c.in-Some.ensures.value in
-    let numbered : c.self.inside.numbers.entries ≡ numbered_names 0 (keys_of c.self.inside.numbers.entries) = c.self.invariant in
-    rw (← c.self.view_is) (place_first (keys_of c.self.inside.numbers.entries) c.in-Some.number.now c.args.name.now (sym (ap (lookup (is_at (name_cmp c.args.name.now))) numbered) ∙ found))
+pub returns-in-Ok : goal.returns-in-Ok
+returns-in-Ok c =
+    let names = c.self.inside.names.items in
+    let bound = rw c.deref.ensures.value at c.in-Ok.ensures.bound in
+    let ok = rw c.deref.ensures.value at c.in-Ok.ensures.ok in
+    let is : c.in-Ok.place ≡ place names c.args.name.now = place_at names c.self.invariant c.in-Ok.place c.args.name.now (halving_found name_order name_exact name_total names c.self.invariant c.args.name.now c.in-Ok.place bound ok) in
+    record { place = rw (← c.self.view_is) is; most = rw (← c.self.view_is) (subst (λ k. k ≤ length names) (sym is) (place_most names c.args.name.now)) }
 
-pub returns-in-None : goal.returns-in-None
-returns-in-None c =
-    let absent : lookup (is_at (name_cmp c.args.name.now)) c.self.inside.numbers.entries ≡ None = sym c.in-None.ensures.value in
-    let numbered : c.self.inside.numbers.entries ≡ numbered_names 0 (keys_of c.self.inside.numbers.entries) = c.self.invariant in
-    let count : c.len.result ≡ length c.self.inside.numbers.entries = search rules in
-    rw (← c.self.view_is) (count ∙ sym (length-keys_of c.self.inside.numbers.entries) ∙ sym (place_none (keys_of c.self.inside.numbers.entries) 0 c.args.name.now (sym (ap (lookup (is_at (name_cmp c.args.name.now))) numbered) ∙ absent)))
+pub returns-in-Err : goal.returns-in-Err
+returns-in-Err c =
+    let names = c.self.inside.names.items in
+    let position = rw c.deref.ensures.value at c.in-Err.ensures.position in
+    let count : c.len.result ≡ length names = search rules in
+    let is : c.len.result ≡ place names c.args.name.now = count ∙ place_none names c.args.name.now (halving_none name_order name_exact name_total names c.self.invariant c.args.name.now c.in-Err.field-0 position) in
+    record { place = rw (← c.self.view_is) is; most = rw (← c.self.view_is) (subst (λ k. k ≤ length names) (sym is) (place_most names c.args.name.now)) }

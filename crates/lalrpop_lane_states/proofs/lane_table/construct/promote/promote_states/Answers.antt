@@ -1,7 +1,7 @@
 use Rattle.std.proofs.Common.{[], ◌∷◌, ◌++◌, sym, subst, ap, ◌∙◌, append-nil, arith}
 use Rattle.std.proofs.lemmas.List.{nil_from_length}
 use Rattle.std.specs.List.{AllZip}
-use Rattle.lalrpop_grammar.proofs.theory.first.FirstNumbers.{AllZip-last}
+use Rattle.lalrpop_grammar.proofs.theory.lists.ListEnds.{AllZip-last}
 use Rattle.lalrpop_lane_states.specs.Words.{IsPromoted}
 use Rattle.lalrpop_states.proofs.theory.collapse.Merging.{taken}
 use Rattle.lalrpop_lane_states.proofs.lane_table.construct.promote.promote_states.Goals as goal

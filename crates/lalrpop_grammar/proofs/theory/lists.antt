@@ -1,0 +1,2 @@
+-- Lists in general.
+pub mod ListEnds
