@@ -204,27 +204,36 @@ static TABLES: Tables = Tables {
     ],
 };
 
-/// The action of a state on a terminal: 0 refuses it, a number up to that of productions reduces by
-/// the production before it, and a larger one shifts. A shift to state 0 accepts the input.
-fn action_of(state: usize, terminal: usize) -> usize {
+/// The action of a state on a terminal.
+#[inline(always)]
+fn action_of(state: usize, terminal: usize) -> Action {
     let place = TABLES.row[state] as usize + terminal;
     if TABLES.column[place] as usize == terminal {
-        return TABLES.cell[place] as usize;
+        return Action::of(TABLES.cell[place] as usize);
     }
-    if TABLES.sets[TABLES.set[state] as usize * SET_BYTES + terminal / 8] >> (terminal % 8) & 1 == 1
-    {
-        return TABLES.reduction[state] as usize;
+    let set = TABLES.sets[TABLES.set[state] as usize * SET_BYTES + terminal / 8];
+    if set.rotate_right(terminal as u32) & 1 == 1 {
+        return Action::of_reduction(TABLES.reduction[state] as usize);
     }
-    0
+    Action::Refuse
 }
 
-/// The state to which the goto of a state leads, or 0 if there is none.
-fn goto_of(state: usize, nonterminal: usize) -> usize {
-    let place = TABLES.goto_row[state] as usize + nonterminal;
+/// Where the gotos of a state begin.
+fn gotos_of(state: usize) -> usize {
+    TABLES.goto_row[state] as usize
+}
+
+/// The state to which one of these gotos leads, or nothing if there is none.
+#[inline(always)]
+fn goto_of(gotos: usize, nonterminal: usize) -> Option<usize> {
+    let place = gotos + nonterminal;
     if TABLES.goto_column[place] as usize == nonterminal {
-        return TABLES.goto_cell[place] as usize;
+        return Some(TABLES.goto_cell[place] as usize);
     }
-    TABLES.goto_usual[nonterminal] as usize
+    match TABLES.goto_usual[nonterminal] {
+        0 => None,
+        state => Some(state as usize),
+    }
 }
 
 impl Terminal {
@@ -295,16 +304,18 @@ impl<Stop> Error<Stop> {
 #[derive(Clone, Debug)]
 pub struct Run {
     stack: Vec<Entry>,
+    /// Entries over which reductions on a terminal wrote. They are of the run until it is shifted.
+    kept: Vec<Entry>,
     at: At,
 }
 
 impl Run {
     /// A run that makes at most so many steps: each shift and each reduction is one.
     pub fn new(limit: Option<usize>) -> Run {
-        let (stack, left) = (Vec::new(), limit.unwrap_or(usize::MAX));
+        let (stack, kept, last) = (Vec::new(), Vec::new(), limit.unwrap_or(usize::MAX));
         #[rustfmt::skip]
-        let at = At { state: 0, depth: 0, fresh: 0, position: 0, left };
-        Run { stack, at }
+        let at = At { state: 0, depth: 0, position: 0, last };
+        Run { stack, kept, at }
     }
 
     /// Reads a terminal, or the end of the input. Returns whether the input is accepted. After a
@@ -314,131 +325,150 @@ impl Run {
         token: Terminal,
         to: &mut H,
     ) -> Result<bool, Error<H::Stop>> {
-        let next = self.at.push(&mut self.stack, token, to)?;
-        self.at = next.unwrap_or(self.at);
-        Ok(next.is_none())
+        self.read(core::iter::once(token), to)
     }
 
     /// The terminals that may come next in the steps that are left, each after a trial.
+    #[cold]
     pub fn expected(&mut self) -> Vec<Terminal> {
-        self.at.expected(&mut self.stack)
+        let may_follow = |token: &Terminal| {
+            self.undo();
+            let mut at = self.at;
+            let target = self.reduce_all(&mut at, *token, |_, _, _| Ok::<(), ()>(()));
+            matches!(target, Ok(Some(target)) if target == 0 || at.position < at.last)
+        };
+        TERMINALS.iter().copied().filter(may_follow).collect()
     }
 }
 
-/// A state of the stack, and the position at which the symbol after it begins.
+/// What a state does on a terminal. A shift to state 0 accepts the input.
+enum Action {
+    Shift(usize),
+    Reduce(Production),
+    Refuse,
+}
+
+impl Action {
+    /// The action with a number: one above the number of productions shifts.
+    #[inline(always)]
+    fn of(number: usize) -> Action {
+        match number.checked_sub(PRODUCTIONS.len() + 1) {
+            Some(state) => Action::Shift(state),
+            None => Action::of_reduction(number),
+        }
+    }
+
+    /// The action with another number: 0 refuses, and others reduce by the production before them.
+    #[inline(always)]
+    fn of_reduction(number: usize) -> Action {
+        match PRODUCTIONS.get(number.wrapping_sub(1)) {
+            Some(by) => Action::Reduce(*by),
+            None => Action::Refuse,
+        }
+    }
+}
+
+/// Where the gotos of a state of the stack begin, and the position of the symbol after that state.
 #[derive(Clone, Copy, Debug)]
 struct Entry(usize, usize);
 
-/// Where a run is: its state, and what is below that, which are the first `depth` entries of the stack.
-/// On a terminal that is not shifted yet, there are `fresh` entries above those of the run after them.
+/// Where a run is: its state, and what is below that, which are the first `depth` entries of the
+/// stack. No step is left at the position `last`, which is one less after each reduction.
 #[derive(Clone, Copy, Debug)]
 struct At {
     state: usize,
     depth: usize,
-    fresh: usize,
     position: usize,
-    left: usize,
+    last: usize,
 }
 
-impl At {
-    /// The place of the run after a terminal, or nothing if the input is accepted.
-    #[inline]
-    fn push<H: Handler>(
-        self,
-        stack: &mut Vec<Entry>,
-        token: Terminal,
-        to: &mut H,
-    ) -> Result<Option<At>, Error<H::Stop>> {
-        let mut at = self;
-        let takes = |by, first| to.reduce(by, first, self.position);
-        let Some(target) = at.reduce_all(stack, self.depth, token, takes)? else {
-            return Err(Error::Refused(self.position, token, self.expected(stack)));
-        };
-        if target == 0 {
-            return Ok(None);
-        }
-        if at.left == 0 {
-            return Err(Error::Limit);
-        }
-        to.shift(self.position, token).map_err(Error::Stopped)?;
-        for place in self.depth..self.depth + at.fresh {
-            stack[at.depth] = stack[place];
-            at.depth += 1;
-        }
-        put(stack, at.depth, Entry(at.state, self.position));
-        at.state = target;
-        at.depth += 1;
-        at.fresh = 0;
-        at.position += 1;
-        at.left -= 1;
-        Ok(Some(at))
-    }
-
-    #[cold]
-    fn expected(self, stack: &mut Vec<Entry>) -> Vec<Terminal> {
-        let may_follow = |token: &Terminal| {
-            let mut at = self;
-            let target = at.reduce_all(stack, self.depth, *token, |_, _| Ok::<(), ()>(()));
-            matches!(target, Ok(Some(target)) if target == 0 || at.left > 0)
-        };
-        TERMINALS.iter().copied().filter(may_follow).collect()
-    }
-
-    /// Makes the reductions on a terminal, of a run with so many entries. Returns the state to which
-    /// it is shifted, 0 if the input is accepted, or nothing if the terminal is refused.
-    #[inline]
-    fn reduce_all<Stop>(
+impl Run {
+    /// Reads terminals as long as they are shifted. Returns whether the input is accepted.
+    fn read<H: Handler>(
         &mut self,
-        stack: &mut Vec<Entry>,
-        depth: usize,
-        token: Terminal,
-        mut takes: impl FnMut(Production, usize) -> Result<(), Stop>,
-    ) -> Result<Option<usize>, Error<Stop>> {
-        loop {
-            let action = action_of(self.state, token as usize);
-            if action > PRODUCTIONS.len() {
-                return Ok(Some(action - PRODUCTIONS.len() - 1));
-            }
-            if action == 0 {
-                return Ok(None);
-            }
-            if self.left == 0 {
+        terminals: impl Iterator<Item = Terminal>,
+        to: &mut H,
+    ) -> Result<bool, Error<H::Stop>> {
+        self.undo();
+        let mut at = self.at;
+        for token in terminals {
+            let takes = |by, first, end| to.reduce(by, first, end);
+            let target = match self.reduce_all(&mut at, token, takes) {
+                Ok(Some(0)) => return Ok(true),
+                Ok(Some(target)) => target,
+                Ok(None) => return Err(Error::Refused(at.position, token, self.expected())),
+                Err(None) => return Err(Error::Limit),
+                Err(Some(reason)) => return Err(Error::Stopped(reason)),
+            };
+            if at.position == at.last {
                 return Err(Error::Limit);
             }
-            self.left -= 1;
-            let Entry(below, first) = self.pop(stack, depth, TABLES.length[action - 1] as usize);
-            takes(PRODUCTIONS[action - 1], first).map_err(Error::Stopped)?;
-            self.state = goto_of(below, TABLES.left[action - 1] as usize);
-            if self.state == 0 {
-                return Ok(Some(0));
+            to.shift(at.position, token).map_err(Error::Stopped)?;
+            let entry = Entry(gotos_of(at.state), at.position);
+            match self.stack.get_mut(at.depth) {
+                Some(old) => *old = entry,
+                None => self.put(at.depth, entry),
+            }
+            self.kept.clear();
+            at.state = target;
+            at.depth += 1;
+            at.position += 1;
+            self.at = at;
+        }
+        Ok(false)
+    }
+
+    /// Makes the reductions on a terminal. Returns the state to which it is shifted, 0 if the input
+    /// is accepted, or nothing if the terminal is refused.
+    #[inline(always)]
+    fn reduce_all<Stop>(
+        &mut self,
+        at: &mut At,
+        token: Terminal,
+        mut takes: impl FnMut(Production, usize, usize) -> Result<(), Stop>,
+    ) -> Result<Option<usize>, Option<Stop>> {
+        loop {
+            let by = match action_of(at.state, token as usize) {
+                Action::Shift(target) => return Ok(Some(target)),
+                Action::Reduce(by) => by,
+                Action::Refuse => return Ok(None),
+            };
+            if at.position == at.last {
+                return Err(None);
+            }
+            at.last -= 1;
+            if by.length() == 0 {
+                self.put(at.depth, Entry(gotos_of(at.state), at.position));
+            }
+            at.depth = at.depth + 1 - by.length();
+            let Entry(gotos, first) = self.stack[at.depth - 1];
+            takes(by, first, at.position).map_err(Some)?;
+            match goto_of(gotos, TABLES.left[by as usize] as usize) {
+                Some(state) => at.state = state,
+                None => return Ok(Some(0)),
             }
         }
     }
 
-    /// Pops the entries of a right side but the first one, which is returned. An empty right side has
-    /// none, and so one is pushed.
-    #[inline]
-    fn pop(&mut self, stack: &mut Vec<Entry>, depth: usize, length: usize) -> Entry {
-        if length > self.fresh {
-            self.depth -= length - self.fresh - 1;
-            self.fresh = 0;
-            return stack[self.depth - 1];
+    /// Writes an entry, at most at the end of the stack. Keeps the entries of the run from that
+    /// place on, the last one first.
+    #[cold]
+    #[inline(never)]
+    fn put(&mut self, place: usize, entry: Entry) {
+        for it in (place..self.at.depth - self.kept.len()).rev() {
+            self.kept.push(self.stack[it]);
         }
-        self.fresh -= length;
-        if length == 0 {
-            put(stack, depth + self.fresh, Entry(self.state, self.position));
+        match self.stack.get_mut(place) {
+            Some(old) => *old = entry,
+            None => self.stack.push(entry),
         }
-        self.fresh += 1;
-        stack[depth + self.fresh - 1]
     }
-}
 
-/// Writes an entry of the stack, at most at its end.
-#[inline]
-fn put(stack: &mut Vec<Entry>, place: usize, entry: Entry) {
-    match stack.get_mut(place) {
-        Some(old) => *old = entry,
-        None => stack.push(entry),
+    /// Writes the kept entries back, after a terminal that was not shifted.
+    fn undo(&mut self) {
+        while let Some(entry) = self.kept.pop() {
+            self.stack[self.at.depth - self.kept.len() - 1] = entry;
+        }
     }
 }
 
@@ -448,11 +478,7 @@ pub fn parse<H: Handler>(
     handler: &mut H,
     limit: Option<usize>,
 ) -> Result<(), Error<H::Stop>> {
-    let Run { mut stack, mut at } = Run::new(limit);
     let mut terminals = terminals.into_iter();
-    let mut read = || terminals.next().unwrap_or(Terminal::End);
-    while let Some(next) = at.push(&mut stack, read(), handler)? {
-        at = next;
-    }
-    Ok(())
+    let all = core::iter::from_fn(|| Some(terminals.next().unwrap_or(Terminal::End)));
+    Run::new(limit).read(all, handler).map(|_| ())
 }

@@ -1,28 +1,36 @@
 //! The interface and the lookups for Rust.
 
 /// The lookup of an action and of a goto.
-pub(crate) const LOOKUP: &str =
-    r##"/// The action of a state on a terminal: 0 refuses it, a number up to that of productions reduces by
-/// the production before it, and a larger one shifts. A shift to state 0 accepts the input.
-fn action_of(state: usize, terminal: usize) -> usize {
+pub(crate) const LOOKUP: &str = r##"/// The action of a state on a terminal.
+#[inline(always)]
+fn action_of(state: usize, terminal: usize) -> Action {
     let place = TABLES.row[state] as usize + terminal;
     if TABLES.column[place] as usize == terminal {
-        return TABLES.cell[place] as usize;
+        return Action::of(TABLES.cell[place] as usize);
     }
-    if TABLES.sets[TABLES.set[state] as usize * SET_BYTES + terminal / 8] >> (terminal % 8) & 1 == 1
-    {
-        return TABLES.reduction[state] as usize;
+    let set = TABLES.sets[TABLES.set[state] as usize * SET_BYTES + terminal / 8];
+    if set.rotate_right(terminal as u32) & 1 == 1 {
+        return Action::of_reduction(TABLES.reduction[state] as usize);
     }
-    0
+    Action::Refuse
 }
 
-/// The state to which the goto of a state leads, or 0 if there is none.
-fn goto_of(state: usize, nonterminal: usize) -> usize {
-    let place = TABLES.goto_row[state] as usize + nonterminal;
+/// Where the gotos of a state begin.
+fn gotos_of(state: usize) -> usize {
+    TABLES.goto_row[state] as usize
+}
+
+/// The state to which one of these gotos leads, or nothing if there is none.
+#[inline(always)]
+fn goto_of(gotos: usize, nonterminal: usize) -> Option<usize> {
+    let place = gotos + nonterminal;
     if TABLES.goto_column[place] as usize == nonterminal {
-        return TABLES.goto_cell[place] as usize;
+        return Some(TABLES.goto_cell[place] as usize);
     }
-    TABLES.goto_usual[nonterminal] as usize
+    match TABLES.goto_usual[nonterminal] {
+        0 => None,
+        state => Some(state as usize),
+    }
 }
 "##;
 
@@ -95,16 +103,18 @@ impl<Stop> Error<Stop> {
 #[derive(Clone, Debug)]
 pub struct Run {
     stack: Vec<Entry>,
+    /// Entries over which reductions on a terminal wrote. They are of the run until it is shifted.
+    kept: Vec<Entry>,
     at: At,
 }
 
 impl Run {
     /// A run that makes at most so many steps: each shift and each reduction is one.
     pub fn new(limit: Option<usize>) -> Run {
-        let (stack, left) = (Vec::new(), limit.unwrap_or(usize::MAX));
+        let (stack, kept, last) = (Vec::new(), Vec::new(), limit.unwrap_or(usize::MAX));
         #[rustfmt::skip]
-        let at = At { state: 0, depth: 0, fresh: 0, position: 0, left };
-        Run { stack, at }
+        let at = At { state: 0, depth: 0, position: 0, last };
+        Run { stack, kept, at }
     }
 
     /// Reads a terminal, or the end of the input. Returns whether the input is accepted. After a
@@ -114,14 +124,19 @@ impl Run {
         token: Terminal,
         to: &mut H,
     ) -> Result<bool, Error<H::Stop>> {
-        let next = self.at.push(&mut self.stack, token, to)?;
-        self.at = next.unwrap_or(self.at);
-        Ok(next.is_none())
+        self.read(core::iter::once(token), to)
     }
 
     /// The terminals that may come next in the steps that are left, each after a trial.
+    #[cold]
     pub fn expected(&mut self) -> Vec<Terminal> {
-        self.at.expected(&mut self.stack)
+        let may_follow = |token: &Terminal| {
+            self.undo();
+            let mut at = self.at;
+            let target = self.reduce_all(&mut at, *token, |_, _, _| Ok::<(), ()>(()));
+            matches!(target, Ok(Some(target)) if target == 0 || at.position < at.last)
+        };
+        TERMINALS.iter().copied().filter(may_follow).collect()
     }
 }
 "##;

@@ -66,16 +66,18 @@ impl<Stop> Error<Stop> {
 #[derive(Clone, Debug)]
 pub struct Run {
     stack: Vec<Entry>,
+    /// Entries over which reductions on a terminal wrote. They are of the run until it is shifted.
+    kept: Vec<Entry>,
     at: At,
 }
 
 impl Run {
     /// A run that makes at most so many steps: each shift and each reduction is one.
     pub fn new(limit: Option<usize>) -> Run {
-        let (stack, left) = (Vec::new(), limit.unwrap_or(usize::MAX));
+        let (stack, kept, last) = (Vec::new(), Vec::new(), limit.unwrap_or(usize::MAX));
         #[rustfmt::skip]
-        let at = At { state: 0, depth: 0, fresh: 0, position: 0, left };
-        Run { stack, at }
+        let at = At { state: 0, depth: 0, position: 0, last };
+        Run { stack, kept, at }
     }
 
     /// Reads a terminal, or the end of the input. Returns whether the input is accepted. After a
@@ -85,13 +87,18 @@ impl Run {
         token: Terminal,
         to: &mut H,
     ) -> Result<bool, Error<H::Stop>> {
-        let next = self.at.push(&mut self.stack, token, to)?;
-        self.at = next.unwrap_or(self.at);
-        Ok(next.is_none())
+        self.read(core::iter::once(token), to)
     }
 
     /// The terminals that may come next in the steps that are left, each after a trial.
+    #[cold]
     pub fn expected(&mut self) -> Vec<Terminal> {
-        self.at.expected(&mut self.stack)
+        let may_follow = |token: &Terminal| {
+            self.undo();
+            let mut at = self.at;
+            let target = self.reduce_all(&mut at, *token, |_, _, _| Ok::<(), ()>(()));
+            matches!(target, Ok(Some(target)) if target == 0 || at.position < at.last)
+        };
+        TERMINALS.iter().copied().filter(may_follow).collect()
     }
 }

@@ -1,22 +1,31 @@
-/// The action of a state on a terminal: 0 refuses it, a number up to that of productions reduces by
-/// the production before it, and a larger one shifts. A shift to state 0 accepts the input.
-fn action_of(state: usize, terminal: usize) -> usize {
+/// The action of a state on a terminal.
+#[inline(always)]
+fn action_of(state: usize, terminal: usize) -> Action {
     let place = TABLES.row[state] as usize + terminal;
     if TABLES.column[place] as usize == terminal {
-        return TABLES.cell[place] as usize;
+        return Action::of(TABLES.cell[place] as usize);
     }
-    if TABLES.sets[TABLES.set[state] as usize * SET_BYTES + terminal / 8] >> (terminal % 8) & 1 == 1
-    {
-        return TABLES.reduction[state] as usize;
+    let set = TABLES.sets[TABLES.set[state] as usize * SET_BYTES + terminal / 8];
+    if set.rotate_right(terminal as u32) & 1 == 1 {
+        return Action::of_reduction(TABLES.reduction[state] as usize);
     }
-    0
+    Action::Refuse
 }
 
-/// The state to which the goto of a state leads, or 0 if there is none.
-fn goto_of(state: usize, nonterminal: usize) -> usize {
-    let place = TABLES.goto_row[state] as usize + nonterminal;
+/// Where the gotos of a state begin.
+fn gotos_of(state: usize) -> usize {
+    TABLES.goto_row[state] as usize
+}
+
+/// The state to which one of these gotos leads, or nothing if there is none.
+#[inline(always)]
+fn goto_of(gotos: usize, nonterminal: usize) -> Option<usize> {
+    let place = gotos + nonterminal;
     if TABLES.goto_column[place] as usize == nonterminal {
-        return TABLES.goto_cell[place] as usize;
+        return Some(TABLES.goto_cell[place] as usize);
     }
-    TABLES.goto_usual[nonterminal] as usize
+    match TABLES.goto_usual[nonterminal] {
+        0 => None,
+        state => Some(state as usize),
+    }
 }
