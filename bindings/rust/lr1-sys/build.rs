@@ -1,5 +1,5 @@
-//! Names the folder of liblr1.a to the linker: that of the variable LR1_LIB_DIR, or the one that
-//! pkg-config knows, or the folder that `tools/build --library` fills.
+//! Names the folder of liblr1.a to the linker: that of the variable LR1_LIB_DIR, or the folder that
+//! `tools/build --library` fills, or the one that pkg-config knows.
 
 use std::env;
 use std::path::{Path, PathBuf};

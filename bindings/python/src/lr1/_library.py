@@ -3,6 +3,7 @@
 from __future__ import annotations
 
 import ctypes
+import operator
 import os
 import pathlib
 from typing import Iterable, List, NamedTuple, Sequence, Tuple, Union
@@ -162,9 +163,18 @@ def numbered(call: str, *words: object, room: int = 64, more: Sequence[object] =
 def array_of(numbers: Iterable[int]) -> ctypes.Array[ctypes.c_uint32]:
     """Numbers, as the library reads them."""
     listed = list(numbers)
-    if any(not 0 <= it < 1 << 32 for it in listed):
-        raise ValueError("a number has more than 32 bits")
+    for it in listed:
+        if not 0 <= it < 1 << 32:
+            raise ValueError(f"the number {it} is not between 0 and 2**32 - 1")
     return (ctypes.c_uint32 * len(listed))(*listed)
+
+
+def counted(what: str, number: int) -> int:
+    """A number that the library reads. One that is negative or has more than 64 bits raises ValueError."""
+    number = operator.index(number)
+    if not 0 <= number < 1 << 64:
+        raise ValueError(f"{what} {number} is not between 0 and 2**64 - 1")
+    return number
 
 
 def position() -> ctypes.c_size_t:

@@ -30,7 +30,10 @@ class Finding:
     """What is wrong or doubtful with a grammar.
 
     `severity` is "error" or "warning". `line` and `column` count from 1. `start` and `end` are
-    offsets in bytes of the text. `hint` is a way out.
+    offsets in bytes of the text. `hint` is a way out. `str(finding)` is a line for an editor:
+
+    >>> print(Grammar('S = Exp').check("S")[0])
+    1:5: warning: `Exp` has no production; write one, or mend the name
     """
 
     severity: str
@@ -41,11 +44,14 @@ class Finding:
     message: str
     hint: str
 
+    def __str__(self) -> str:
+        return f"{self.line}:{self.column}: {self.severity}: {self.message}; {self.hint}"
+
 
 def checked_name(name: str) -> str:
     """A name that a grammar text may have. Any other raises GrammarError."""
     if not _NAME.fullmatch(name):
-        raise GrammarError(f"{name!r} is not a name: use ASCII letters, digits and _")
+        raise GrammarError(f"{name!r} is not a name: use ASCII letters, digits and _, and no digit first")
     return name
 
 
@@ -53,10 +59,12 @@ def _word_of(symbol: Symbol) -> str:
     """A symbol as a word of a grammar text."""
     if isinstance(symbol, str):
         return checked_name(symbol)
+    if not isinstance(symbol, Literal):
+        raise TypeError(f"{symbol!r} is no symbol: give a name as a str, or a Literal")
     if not symbol.text:
         raise GrammarError("a literal is empty: leave it out")
     if re.search('["\0 \t\n]', symbol.text):
-        raise GrammarError(f"the literal {symbol.text!r} has a double quote, a blank, a line end or U+0000")
+        raise GrammarError(f"the literal {symbol.text!r} has a double quote, a blank, a tab, a line end or U+0000")
     return f'"{symbol.text}"'
 
 
@@ -81,9 +89,12 @@ class Grammar:
     def add_production(self, name: str, symbols: Iterable[Symbol]) -> None:
         """Adds a production of a nonterminal.
 
-        A symbol is the name of a nonterminal, or a `Literal`. Any other symbol or name raises
-        GrammarError, and then the grammar is as before.
+        A symbol is the name of a nonterminal, or a `Literal`. A name or a text that a grammar cannot
+        have raises GrammarError, and then the grammar is as before. Symbols are a list of them, so a
+        `str` raises TypeError.
         """
+        if isinstance(symbols, str):
+            raise TypeError(f"{symbols!r} is one symbol: give a list of symbols")
         words = [checked_name(name), "=", *map(_word_of, symbols)]
         self._add_line(" ".join(words))
 

@@ -15,9 +15,9 @@ end of the input is the number of terminals.
 from __future__ import annotations
 
 import ctypes
-from typing import Iterable, List, NamedTuple, Optional, Tuple
+from typing import Iterable, List, NamedTuple, Optional, Tuple, Union
 
-from ._library import FAULT, REFUSED, array_of, numbered, position
+from ._library import FAULT, REFUSED, array_of, counted, numbered, position
 
 _STEPS = ("shift", "reduce", "refused", "limit")
 
@@ -51,7 +51,7 @@ class NumberedTables:
     def __init__(self, numbers: Iterable[int]) -> None:
         self._numbers = array_of(numbers)
 
-    def action(self, state: int, token: int) -> "int | Reduction | None":
+    def action(self, state: int, token: int) -> Union[int, Reduction, None]:
         """The state to which a token is shifted, or a reduction, or None."""
         status, numbers = self._called("lr1_action", *array_of((state, token)))
         if status == REFUSED:
@@ -66,17 +66,18 @@ class NumberedTables:
     def parse(self, tokens: Iterable[int], limit: int = 1 << 40) -> NumberedParse:
         """Parses tokens in at most so many steps."""
         given, read = array_of(tokens), position()
+        steps = counted("the limit", limit)
         status, numbers = self._called(
-            "lr1_parse", given, len(given), limit, room=2 * len(given) + 64, more=[ctypes.byref(read)]
+            "lr1_parse", given, len(given), steps, room=2 * len(given) + 64, more=[ctypes.byref(read)]
         )
-        steps = [(_STEPS[kind], number) for kind, number in zip(numbers[::2], numbers[1::2])]
-        end, state = steps.pop() if status == REFUSED else ("parsed", None)
-        return NumberedParse(end, steps, read.value, state)
+        made = [(_STEPS[kind], number) for kind, number in zip(numbers[::2], numbers[1::2])]
+        end, state = made.pop() if status == REFUSED else ("parsed", None)
+        return NumberedParse(end, made, read.value, state)
 
     def expected(self, tokens: Iterable[int], limit: int = 1 << 40) -> Optional[List[int]]:
         """The tokens that may come after tokens, or None if these are refused or pass the limit."""
         given = array_of(tokens)
-        status, numbers = self._called("lr1_expected", given, len(given), limit)
+        status, numbers = self._called("lr1_expected", given, len(given), counted("the limit", limit))
         return None if status == REFUSED else numbers
 
     def _called(self, call: str, *words: object, room: int = 64, more: Iterable[object] = ()) -> Tuple[int, List[int]]:

@@ -6,7 +6,7 @@ import json
 import re
 from typing import Any, Dict, Iterable, List, Optional
 
-from ._library import FAULT, ask
+from ._library import FAULT, ask, counted
 from .errors import ConflictsError, GrammarError, LimitError, Lr1Error, RefusedError
 from .trees import Node, tree_of
 
@@ -68,7 +68,7 @@ class Tables:
         Each shift and each reduction is a step, of which a parse makes at most `limit`. Raises
         RefusedError, LimitError, or ConflictsError if there are no tables.
         """
-        text = self._asked("parse", str(limit), *tokens)
+        text = self._asked("parse", str(counted("the limit", limit)), *tokens)
         if text.startswith("["):
             return tree_of(text)
         if found := re.match(r"conflicts: (\d+)$", text):
@@ -103,4 +103,7 @@ class Tables:
         """
         if around is None:
             return self._asked("dot", *["--conflicts"] * conflicts)
-        return self._asked("dot", "--around", str(around), "--depth", str(depth))
+        if conflicts:
+            raise ValueError("a graph is around a state or to conflicts, and not both")
+        words = ["--around", str(counted("the state", around)), "--depth", str(counted("the depth", depth))]
+        return self._asked("dot", *words)

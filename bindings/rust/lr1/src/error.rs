@@ -36,12 +36,15 @@ impl Error {
 impl fmt::Display for Error {
     fn fmt(&self, to: &mut fmt::Formatter<'_>) -> fmt::Result {
         match self {
-            Error::Name(text) => write!(to, "{text:?} is not a name: use ASCII letters, digits and _"),
+            Error::Name(text) => write!(
+                to,
+                "{text:?} is not a name: use ASCII letters, digits and _, and no digit first"
+            ),
             Error::Literal(text) if text.is_empty() => to.write_str("a literal is empty: leave it out"),
             Error::Literal(text) => {
                 write!(
                     to,
-                    "the literal {text:?} has a double quote, a blank, a line end or U+0000"
+                    "the literal {text:?} has a double quote, a blank, a tab, a line end or U+0000"
                 )
             }
             Error::Word(text) => write!(to, "the word {text:?} has a character U+0000"),

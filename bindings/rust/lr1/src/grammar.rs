@@ -22,7 +22,14 @@ impl fmt::Display for Symbol<'_> {
     }
 }
 
-/// What is wrong or doubtful with a grammar.
+/// What is wrong or doubtful with a grammar. Its text is a line for an editor, without a file.
+///
+/// ```
+/// let found = lr1::Grammar::from_text("S = Exp").check("S")?;
+/// let line = "1:5: warning: `Exp` has no production; write one, or mend the name";
+/// assert_eq!(found[0].to_string(), line);
+/// # Ok::<(), lr1::Error>(())
+/// ```
 #[derive(Clone, Debug, PartialEq, Eq)]
 pub struct Finding {
     /// Whether the grammar cannot be read for it.
@@ -39,6 +46,14 @@ pub struct Finding {
     pub message: String,
     /// A way out.
     pub hint: String,
+}
+
+impl fmt::Display for Finding {
+    fn fmt(&self, to: &mut fmt::Formatter<'_>) -> fmt::Result {
+        let severity = if self.is_error { "error" } else { "warning" };
+        let (line, column) = (self.line, self.column);
+        write!(to, "{line}:{column}: {severity}: {}; {}", self.message, self.hint)
+    }
 }
 
 /// A grammar, as a text with one production in a line.

@@ -160,6 +160,10 @@ impl Tables {
 
     /// The set of tokens of a number. The token `None` is the end of the input.
     ///
+    /// # Panics
+    ///
+    /// If no `lookahead` of these tables has the number.
+    ///
     /// ```
     /// let tables = lr1::Grammar::from_text("S = \"x\"").tables("S")?;
     /// assert_eq!(tables.lookahead(tables.states()[1].reductions[0].lookahead), [None]);
