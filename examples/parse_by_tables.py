@@ -1,7 +1,9 @@
 #!/usr/bin/env python3
-"""Parses tokens by the tables that `lrshow FILE START json` writes, and tells what `lrtab FILE START parse` tells.
+"""Parses tokens by the tables that `lrshow FILE START json` writes, and prints what `lrtab FILE START parse` prints.
 
     lrshow sums S json | parse_by_tables.py LIMIT TOKEN..
+
+The status is that of lrtab. It is 2 if LIMIT is no number, or if standard input has no such data.
 """
 import json
 import sys
@@ -36,7 +38,22 @@ def parse(data, limit, tokens):
             trees.append(tree)
 
 
+def stop(why):
+    print(why, file=sys.stderr)
+    sys.exit(2)
+
+
+def data_of(file):
+    """The data in a file."""
+    try:
+        return json.load(file)
+    except ValueError:
+        stop("standard input has no data of `lrshow FILE START json`")
+
+
 if __name__ == "__main__":
-    TEXT, STATUS = parse(json.load(sys.stdin), int(sys.argv[1]), sys.argv[2:])
+    if not sys.argv[1:] or not (sys.argv[1].isascii() and sys.argv[1].isdigit()):
+        stop("usage: lrshow FILE START json | parse_by_tables.py LIMIT TOKEN..")
+    TEXT, STATUS = parse(data_of(sys.stdin), int(sys.argv[1]), sys.argv[2:])
     sys.stdout.buffer.write(f"{TEXT}\n".encode())
     sys.exit(STATUS)

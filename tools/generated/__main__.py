@@ -25,6 +25,17 @@ def text_of(data, language, method, is_small=False, is_augmented=False, prefix="
     return {"rust": in_rust, "python": in_python}[language].text_of(packed, method)
 
 
+def data_of(file):
+    """The data in a file. If it has none, NoTables says so."""
+    try:
+        data = json.load(file)
+    except ValueError:
+        data = None
+    if not isinstance(data, dict) or data.get("format") != "lrshow":
+        raise NoTables("standard input has no data of `lrshow FILE START json`", 2)
+    return data
+
+
 def main(words):
     parser = argparse.ArgumentParser(prog="generated", usage=__doc__)
     parser.add_argument("language", choices=("c", "rust", "python"))
@@ -36,7 +47,7 @@ def main(words):
     if not re.fullmatch(r"[A-Za-z_][A-Za-z0-9_]*", it.prefix):
         parser.error(f"{it.prefix} is not a name")
     try:
-        text = text_of(json.load(sys.stdin), it.language, it.method, it.small, it.augmented, it.prefix)
+        text = text_of(data_of(sys.stdin), it.language, it.method, it.small, it.augmented, it.prefix)
     except NoTables as why:
         print(why, file=sys.stderr)
         return why.status
