@@ -42,6 +42,9 @@ class Grammars(unittest.TestCase):
         for symbol in ("", "1", "A-B", "é", "n\n", Literal(""), Literal('"'), Literal("a b"), Literal("\t"), Literal("\n")):
             with self.subTest(symbol), self.assertRaises(lr1.GrammarError):
                 grammar.add_production("S", [symbol])
+        for symbols in ("E", [1], [None]):
+            with self.subTest(symbols), self.assertRaises(TypeError):
+                grammar.add_production("S", symbols)
         for name in ("", "1", "a b"):
             for call in (grammar.inline, grammar.tables, grammar.check):
                 with self.subTest(name), self.assertRaises(lr1.GrammarError):
@@ -69,6 +72,7 @@ class Grammars(unittest.TestCase):
         found = Grammar('S = Exp\nExpr = "n"\n').check("S")
         self.assertEqual(found[0].message, "`Exp` has no production")
         self.assertEqual((found[0].severity, found[0].line, found[0].column), ("warning", 1, 5))
+        self.assertEqual(str(found[0]), "1:5: warning: `Exp` has no production; perhaps `Expr` is meant")
         self.assertEqual([it.severity for it in Grammar("S : x").check("S")], ["error"])
         self.assertEqual(Grammar(SUMS).check("S"), [])
 
@@ -102,6 +106,12 @@ class TablesOfGrammars(unittest.TestCase):
             tables.parse(["n", "+", "n"], limit=3)
         with self.assertRaises(ValueError):
             tables.parse(["n\0"])
+        for limit in (-1, 1 << 64):
+            with self.subTest(limit), self.assertRaisesRegex(ValueError, "the limit"):
+                tables.parse(["n"], limit)
+        for tokens, limit in (([1], 9), (["n"], 1.5)):
+            with self.subTest(tokens), self.assertRaises(TypeError):
+                tables.parse(tokens, limit)
 
     def test_conflicts(self):
         tables = Grammar(AMBIGUOUS).tables("S")
@@ -122,6 +132,9 @@ class TablesOfGrammars(unittest.TestCase):
         self.assertLess(len(tables.dot(around=0)), len(tables.dot(around=0, depth=2)))
         with self.assertRaisesRegex(lr1.GrammarError, "no state 9"):
             tables.dot(around=9)
+        for words in ({"around": -1}, {"around": 0, "depth": -1}, {"around": 0, "conflicts": True}):
+            with self.subTest(words), self.assertRaises(ValueError):
+                tables.dot(**words)
 
 
 class Calls(unittest.TestCase):
@@ -191,6 +204,7 @@ class Calls(unittest.TestCase):
             lambda: tables.action(0, 3), lambda: tables.action(99, 0), lambda: tables.goto(0, 2), lambda: tables.parse([2]),
             lambda: lr1.NumberedTables([]).parse([]), lambda: lr1.NumberedTables(numbers[:8]).expected([]),
             lambda: tables.action(-1, 0), lambda: tables.parse([1 << 32]),
+            lambda: tables.parse([1], -1), lambda: tables.parse([1], 1 << 64), lambda: tables.expected([1], -1),
         ):
             with self.assertRaises(ValueError):
                 call()
@@ -211,10 +225,11 @@ class Trees(unittest.TestCase):
 def load_tests(loader, tests, _pattern):
     """The examples of the docstrings and of README.md, too."""
     import lr1._library
+    import lr1.grammar
     import lr1.numbers
     import lr1.trees
 
-    for module in (lr1, lr1._library, lr1.numbers, lr1.trees):
+    for module in (lr1, lr1._library, lr1.grammar, lr1.numbers, lr1.trees):
         tests.addTests(doctest.DocTestSuite(module))
     tests.addTests(doctest.DocFileSuite(str(README), module_relative=False))
     return tests

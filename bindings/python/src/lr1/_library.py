@@ -78,8 +78,11 @@ def ask(text: Union[str, bytes], words: Iterable[str], canonical: bool = False) 
     Answer(status=0, text='[S: "x"]\\n')
     """
     words = list(words)
-    if any("\0" in it for it in words):
-        raise ValueError("a word has a character U+0000")
+    for it in words:
+        if not isinstance(it, str):
+            raise TypeError(f"{it!r} is no word: give a str")
+        if "\0" in it:
+            raise ValueError(f"the word {it!r} has a character U+0000")
     given = text.encode() if isinstance(text, str) else bytes(text)
     asked, room, length = "\0".join(words).encode(), _ROOM, ctypes.c_size_t()
     while True:
