@@ -10,6 +10,8 @@ SIGNS = {it.text: it for it in Terminal}
 def read(text):
     """The terminals of a text, each with its own text."""
     words = re.findall(r"[0-9.]+|[^ ]", text)
+    if any(it not in SIGNS and it[0] not in "0123456789." for it in words):
+        raise ValueError("a sign is none of + - * / ( )")
     return [(SIGNS.get(it, Terminal.NUMBER), it) for it in words]
 
 
@@ -41,8 +43,8 @@ ACTIONS = {
 
 
 if __name__ == "__main__":
-    VALUES = Values(read(" ".join(sys.argv[1:])))
     try:
+        VALUES = Values(read(" ".join(sys.argv[1:])))
         parse([it[0] for it in VALUES.terminals], VALUES)
         print(f"{VALUES.values[0]:g}")
     except (ParseError, ArithmeticError, ValueError) as why:

@@ -44,7 +44,8 @@ def _loaded(path: str) -> ctypes.CDLL:
         library.lr1_action.restype = library.lr1_goto.restype = ctypes.c_uint8
         library.lr1_parse.restype = library.lr1_expected.restype = ctypes.c_uint8
     except (OSError, AttributeError) as why:
-        raise ImportError(f"{path} is not the library lr1: {why}") from why
+        way_out = "install the package, or set LR1_LIBRARY to the path of liblr1.so"
+        raise ImportError(f"{path} is not the library lr1: {why}; {way_out}") from why
     text = [ctypes.c_char_p, ctypes.c_size_t] * 2
     numbers = [ctypes.c_void_p, ctypes.c_size_t]
     count = ctypes.POINTER(ctypes.c_size_t)
