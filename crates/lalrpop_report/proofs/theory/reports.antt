@@ -1,5 +1,4 @@
 -- The text of a report.
-pub mod KeptLines
 pub mod Puts
 pub mod ReportNumbers
 pub mod ReportPadding
