@@ -3,5 +3,3 @@
 
 pub mod attempts;
 mod refusing;
-#[cfg(test)]
-mod spoilt;
