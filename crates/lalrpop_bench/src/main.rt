@@ -4,7 +4,6 @@
 //! - `lalrpop_bench refuse FILE..` asks cases while allocations are refused in the calls.
 //! - `lalrpop_bench time FILE START` prints the time of each part of making the tables of a
 //!   grammar.
-//! - `lalrpop_bench make KIND SIZE` prints a grammar.
 #![tactic(auto)]
 
 mod ask;
@@ -15,13 +14,11 @@ mod show;
 use crate::compare::{Tally, compare_file};
 use crate::refuse::refuse_in_files;
 use anyhow::Context;
-use made_grammars::making::{MOST, print_grammar};
 use std::process::ExitCode;
 use std::{env, fs};
 use table_timing::timing::time_file;
 
-const USAGE: &str =
-    "usage: lalrpop_bench FILE.. | refuse FILE.. | time FILE START | make KIND SIZE";
+const USAGE: &str = "usage: lalrpop_bench FILE.. | refuse FILE.. | time FILE START";
 
 fn main(rt: HostRuntime) -> ExitCode {
     match run(&rt) {
@@ -48,9 +45,6 @@ fn run(rt: &HostRuntime) -> anyhow::Result<u8> {
     if first.as_str() == "time" {
         return run_time(rt, others);
     }
-    if first.as_str() == "make" {
-        return run_make(rt, others);
-    }
     Ok(compare_files(rt, &words)?.status())
 }
 
@@ -74,27 +68,6 @@ fn run_time(rt: &HostRuntime, words: &[String]) -> anyhow::Result<u8> {
     match time_file(rt, name.as_str(), start.as_str())? {
         Some(status) => Ok(status),
         None => usage(rt),
-    }
-}
-
-// Prints the grammar of the kind and the size that the arguments name.
-fn run_make(rt: &HostRuntime, words: &[String]) -> anyhow::Result<u8> {
-    let Some((kind, others)) = words.split_first() else {
-        return usage(rt);
-    };
-    let Some((size, more)) = others.split_first() else {
-        return usage(rt);
-    };
-    let Ok(size) = size.as_str().parse::<usize>() else {
-        return usage(rt);
-    };
-    if !more.is_empty() || size > MOST {
-        return usage(rt);
-    }
-    if print_grammar(rt, kind.as_str(), size)? {
-        Ok(0)
-    } else {
-        usage(rt)
     }
 }
 

@@ -1,14 +1,17 @@
 //! `parse_replay` prints what `lrtab FILE START parse LIMIT TOKEN..` prints. It parses by a parse
 //! table and makes nodes, so that the stored cases of `lrtab` test these. With `expected` in the
-//! place of `parse`, it prints the tokens that may come after the given ones, each in a line.
+//! place of `parse`, it prints the tokens that may come after the given ones, each in a line. With
+//! `bench` as its first argument, it parses made inputs, so that instructions can be counted.
 #![tactic(auto)]
 
+mod bench;
 mod request;
 mod shown;
 mod texts;
 
+use bench::bench_text;
 use lalrpop_tables::build::Method;
-use program_answers::answer::{Answer, answer_to, first_word};
+use program_answers::answer::{Answer, Shown, answer_to, first_word};
 use program_answers::host::{given_method, given_words, out_of_memory};
 use program_answers::tell::tell;
 use request::request_of;
@@ -37,6 +40,11 @@ fn main(rt: HostRuntime) -> ExitCode {
 
 // The result for the arguments and the file that the first one names.
 fn answer_of(alloc: Global, words: &[String], method: Method, file: Option<File>) -> Answer {
+    if let Some((first, others)) = words.split_first() {
+        if first.as_str() == "bench" {
+            return bench_answer(alloc, others).unwrap_or(Answer::Memory);
+        }
+    }
     let Some(request) = request_of(words) else {
         return Answer::Usage;
     };
@@ -44,4 +52,10 @@ fn answer_of(alloc: Global, words: &[String], method: Method, file: Option<File>
         Ok(answer) => answer,
         Err(_) => Answer::Memory,
     }
+}
+
+// The result for the arguments after `bench`.
+fn bench_answer(alloc: Global, words: &[String]) -> anyhow::Result<Answer> {
+    let text = bench_text(alloc, words)?;
+    Ok(Answer::Output(Shown::of(alloc, 0, text, String::new(alloc))?))
 }

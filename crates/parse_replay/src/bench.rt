@@ -1,36 +1,26 @@
-//! `parser_bench` parses a made input by a table, so that instructions can be counted. Its words are
-//! what is made (`events`, `nodes` or `values`), of which language (`calculator` or `json`), and how
-//! often its terminals are repeated. Without words it makes each of them, of short inputs.
-#![tactic(auto)]
-
+//! Parses of made inputs by a table, so that instructions can be counted.
 mod inputs;
 
 use inputs::{Input, table_of};
 use parse_nodes::builder::NodeBuilder;
 use std::alloc::Global;
 use std::convert::Infallible;
-use std::env;
 use table_parser::handler::{ParseHandler, Silent};
 use table_parser::machine::Machine;
 use table_parser::values::{SemanticActions, ValueStack};
 
-fn main(rt: HostRuntime) -> anyhow::Result<()> {
-    let alloc = rt.alloc();
-    let mut words = Vec::new(alloc);
-    for word in env::args(&rt)?.skip(1) {
-        words.push(word)?;
-    }
-    let [what, language, count] = words.as_slice() else {
-        println!(rt; "{}", all_made(alloc, "calculator")?)?;
-        println!(rt; "{}", all_made(alloc, "json")?)?;
-        return Ok(());
+/// Parses a made input, and says how much was made. The words are what is made (`events`, `nodes`
+/// or `values`), of which language (`calculator` or `json`), and how often its terminals are
+/// repeated. Without words it makes each of them, of short inputs.
+pub fn bench_text(alloc: Global, words: &[String]) -> anyhow::Result<String> {
+    let [what, language, count] = words else {
+        let calculator = all_made(alloc, "calculator")?;
+        let json = all_made(alloc, "json")?;
+        return Ok(format!(in alloc; "{calculator}\n{json}\n")?);
     };
     let count = count.as_str().parse::<usize>().unwrap_or(10);
-    println!(rt;
-        "{}",
-        one_made(alloc, language.as_str(), what.as_str(), count)?
-    )?;
-    Ok(())
+    let made = one_made(alloc, language.as_str(), what.as_str(), count)?;
+    Ok(format!(in alloc; "{made}\n")?)
 }
 
 // Makes what a word says, of an input of a language.
