@@ -1,37 +1,43 @@
-//! Prints the LR(1) tables of a grammar as a parser generator would. They have a row for each
+//! The LR(1) tables of a grammar, as a parser generator would print them. They have a row for each
 //! state, with a column for each terminal and the end of input, or for each nonterminal. An action
 //! n > 0 shifts and goes to state n. An action -1 - p reduces by the production with action p. The
 //! number 0 is no action.
-#![tactic(auto)]
-
-use grammar_text::{name_of, read};
 use lalrpop_base::lookahead::token::Token;
 use lalrpop_base::lr1_core::ActionEntry;
 use lalrpop_base::lr1_core::state::Lr1State;
 use lalrpop_base::memory::OutOfMemory;
 use lalrpop_base::repr::grammar::Grammar;
 use lalrpop_base::repr::terminals::TerminalSet;
-use lalrpop_tables::build::Options;
-use lalrpop_tables::lr1::build_states;
 use std::alloc::Global;
 
-const TEXT: &str = "S = E\nE = E \"+\" T\nE = T\nT = \"n\"";
-
-fn main(rt: HostRuntime) -> anyhow::Result<()> {
+/// Prints the actions of all states.
+pub fn print_actions(
+    rt: &HostRuntime,
+    grammar: &Grammar,
+    states: &[Lr1State<'_>],
+) -> anyhow::Result<()> {
     let alloc = rt.alloc();
-    let grammar = read(alloc, TEXT)?;
-    let states = build_states(alloc, &grammar, name_of(alloc, "S")?, &Options::default())?;
     let tokens = tokens_of(alloc, &grammar.terminals)?;
     let (count, width) = (states.len(), tokens.len());
     println!(rt; "static ACTIONS: [[i32; {width}]; {count}] = [")?;
-    for state in &states {
+    for state in states {
         let row = actions(alloc, state, &tokens, &grammar.terminals)?;
         println!(rt; "    {row:?},")?;
     }
-    let width = grammar.nonterminals.len();
-    println!(rt; "];\nstatic GOTOS: [[usize; {width}]; {count}] = [")?;
-    for state in &states {
-        let row = gotos(alloc, state, &grammar)?;
+    println!(rt; "];")?;
+    Ok(())
+}
+
+/// Prints the gotos of all states.
+pub fn print_gotos(
+    rt: &HostRuntime,
+    grammar: &Grammar,
+    states: &[Lr1State<'_>],
+) -> anyhow::Result<()> {
+    let (count, width) = (states.len(), grammar.nonterminals.len());
+    println!(rt; "static GOTOS: [[usize; {width}]; {count}] = [")?;
+    for state in states {
+        let row = gotos(rt.alloc(), state, grammar)?;
         println!(rt; "    {row:?},")?;
     }
     println!(rt; "];")?;

@@ -1,9 +1,13 @@
-//! Checks whether states are tables of a grammar, whatever made them. `check_tables` returns `true`
-//! for the tables that were built, and `false` once each reduction has lost the end of input.
+//! Builds the tables of a grammar, and prints them as a parser generator would. Then it checks
+//! whether states are tables of the grammar, whatever made them. `check_tables` returns `true` for
+//! the tables that were built, and `false` once each reduction has lost the end of input.
 #![tactic(auto)]
+
+mod generated;
 
 ghost use Rattle.lalrpop_base.specs.Words.{IsWellFormed};
 
+use generated::{print_actions, print_gotos};
 use grammar_text::{name_of, read};
 use lalrpop_base::lr1_core::coherent::are_coherent;
 use lalrpop_base::lr1_core::state::Lr1State;
@@ -22,6 +26,8 @@ fn main(rt: HostRuntime) -> anyhow::Result<()> {
     let grammar = read(alloc, TEXT)?;
     let start = name_of(alloc, "S")?;
     let mut states = build_states(alloc, &grammar, start.clone(alloc)?, &Options::default())?;
+    print_actions(&rt, &grammar, &states)?;
+    print_gotos(&rt, &grammar, &states)?;
     let first = start.clone(alloc)?;
     println!(rt; "built: {}", are_tables(alloc, &grammar, first, &states)?)?;
     for state in &mut states {
